@@ -5,7 +5,7 @@ use Rattle.std.proofs.Common.{inl, inr, arith, append-nil, eqb-true, take_all}
 use Rattle.osn_days.specs.Rules.{newest_rules}
 use Rattle.osn_register.specs.declared.limits.Limits.{Limits}
 use Rattle.std.proofs.lemmas.List.Elements.{All-nil}
-use Rattle.osn_core.specs.Sequential.{HasLawfulSource, IsSound, ObjectState, opened}
+use Rattle.osn_core.specs.Sequential.{HasLawfulSource, IsSound, ObjectState, empty_object}
 use Rattle.osn_request.specs.Version.{plain_version}
 use Rattle.osn_request.specs.declared.version.Version.{Version}
 use Rattle.osn_files.proofs.LoadFacts.{IsJournalOf-written}
@@ -133,18 +133,19 @@ counted content = by_last_line (last_line_of content) refl
 
 -- an empty object is loaded from a head
 head_loaded : (limits : Limits)
-    → IsJournalOf plain_version limits (opened limits) (line_text (head_data plain_version))
+    → IsJournalOf plain_version limits (empty_object limits) (line_text (head_data plain_version))
 head_loaded limits =
-    let empty : IsSound newest_rules (opened limits) = record {
+    let empty : IsSound newest_rules (empty_object limits) = record {
       lawful = tt;
       none_empty = tt;
       edits = omega arith;
       editions = omega arith;
       sources = All-nil HasLawfulSource;
     } in
-    subst (IsJournalOf plain_version limits (opened limits))
+    subst (IsJournalOf plain_version limits (empty_object limits))
     (append-nil (line_text (head_data plain_version)))
-    (IsJournalOf-written plain_version (opened limits) empty (All-nil (HasEdit plain_version)))
+    (IsJournalOf-written plain_version (empty_object limits) empty (All-nil
+    (HasEdit plain_version)))
 
 module _ (limits : Limits) (version : Version) (s : ObjectState) where
   -- lines that end with their line feeds get a head if there are none, or else nothing
@@ -152,7 +153,7 @@ module _ (limits : Limits) (version : Version) (s : ObjectState) where
       → SaysVersion version bytes
       → IsJournalOf version limits s (bytes ++ missing_head bytes)
   whole_loaded [] ends loads says =
-      let empty : opened limits ≡ s = cc in
+      let empty : empty_object limits ≡ s = cc in
       let head = line_text (head_data plain_version) in
       subst (λ v. IsJournalOf v limits s head) (sym says)
       (subst (λ t. IsJournalOf plain_version limits t head) empty (head_loaded limits))

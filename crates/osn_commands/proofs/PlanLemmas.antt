@@ -3,7 +3,7 @@
 use Rattle.std.proofs.Common.{◌≡◌, ℕ, Bool, List, Option, Some, None, is_some, option_map}
 use Rattle.std.proofs.Common.{refl, subst, sym}
 use Rattle.osn_core.specs.Sequential.{ObjectState}
-use Rattle.osn_folder.specs.Folder.{Known}
+use Rattle.osn_folder.specs.Folder.{FolderModel}
 use Rattle.osn_register_text.specs.Plan.{IsPlan}
 use Rattle.osn_lines.specs.Streams.{Output}
 use Rattle.osn_register.specs.Plain.{EntryModel}
@@ -36,7 +36,7 @@ module _ {S : Type 0} (remaining : S → Option (List ℕ)) (has_failed : S → 
       by (Some source) = refl
 
   -- what it gives is what its file will
-  pub opened_if : (path : List ℕ) (before after : Option Known)
+  pub opened_if : (path : List ℕ) (before after : Option FolderModel)
       → IsOpened path (option_map remaining old) before after
       → IsOpened path (option_map (λ journal. journal.bytes)
       (input_if remaining has_failed old new)) before after
@@ -52,7 +52,7 @@ module _ {S : Type 0} (remaining : S → Option (List ℕ)) (has_failed : S → 
 
 -- after one that was, it was reported why the journal could not be kept
 pub reports_hindrance : (printed reported status : Status) (refuses : Bool) (path : List ℕ)
-    (there : Bool) (before after : Option Known) (e : Output) → printed ≡ statuses.Done
+    (there : Bool) (before after : Option FolderModel) (e : Output) → printed ≡ statuses.Done
     → ReportsHindrance path there before after e reported → status ≡ refused_if refuses reported
     → ReportsHindranceAfter printed refuses path there before after e status
 reports_hindrance printed reported status refuses path there before after e is found ends =
@@ -61,7 +61,7 @@ reports_hindrance printed reported status refuses path there before after e is f
 
 -- after a plan that was not printed nothing more is
 pub reports_no_hindrance : (printed : Status) (refuses : Bool) (path : List ℕ) (there : Bool)
-    (known : Option Known) (e : Output) → (printed ≡ statuses.Done → ⊥) → ReportsNothing e
+    (known : Option FolderModel) (e : Output) → (printed ≡ statuses.Done → ⊥) → ReportsNothing e
     → ReportsHindranceAfter printed refuses path there known known e printed
 reports_no_hindrance statuses.Done refuses path there known e other nothing =
     absurd (other refl)

@@ -4,7 +4,7 @@ use Rattle.std.specs.Prelude.{Option, Some, None}
 use Rattle.std.specs.Fmt.{decimal}
 use Rattle.std.specs.List.{flat_map}
 use Rattle.toml.specs.Parse.{parse_document}
-use Rattle.osn_lines.specs.Escape.{escaped}
+use Rattle.osn_lines.specs.Escape.{escaped_text}
 use Rattle.osn_lines.specs.Streams.{Output}
 use Rattle.osn_register.specs.declared.limits.Limits.{Limits}
 use Rattle.osn_register_text.specs.FaultHelp.{key_fault_help}
@@ -20,12 +20,12 @@ use Rattle.osn_report.specs.declared.status.Status.TheVariants.{Refused}
 abbrev pub place_note : List ℕ → Option ℕ → List ℕ
 place_note code None = []
 place_note code (Some line) = codes "note: "
-    ++ (escaped code ++ (codes " begins on line " ++ (decimal line ++ codes "\n")))
+    ++ (escaped_text code ++ (codes " begins on line " ++ (decimal line ++ codes "\n")))
 
 -- a fault of a text of this path, what may be meant, and where its table begins
 abbrev pub fault_lines : List ℕ → List ℕ → KeyFault → List ℕ
 fault_lines path text fault = codes "oldstyle: "
-    ++ (escaped path
+    ++ (escaped_text path
     ++ (codes ": "
     ++ (key_fault_text fault
     ++ (codes "\n"

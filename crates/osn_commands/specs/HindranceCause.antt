@@ -4,14 +4,14 @@ use Rattle.std.specs.Prelude.{◌≡◌, ⊤, ◌==◌, if◌then◌else◌, ℕ
 use Rattle.std.specs.Prelude.{◌++◌, length, codes, Option, Some, None, option_map, option_and_then}
 use Rattle.std.specs.Path.{path_parent}
 use Rattle.osn_folder.specs.Folder.{CannotKeep, Changes, HasNoFile, IsFileOf, IsKeptAt, Keeps}
-use Rattle.osn_folder.specs.Folder.{Known, Leaves, Opens, Stays, path_if}
+use Rattle.osn_folder.specs.Folder.{FolderModel, Leaves, Opens, Stays, path_if}
 use Rattle.osn_folder.specs.declared.fault.KeepFault.{KeepFault}
 use Rattle.osn_folder.specs.declared.fault.KeepFault.TheVariants as faults
 use Rattle.osn_folder.specs.declared.fault.OpenFailed.{OpenFailed}
 use Rattle.osn_folder.specs.declared.fault.OpenFailed.TheVariants as opens
 use Rattle.osn_lines.specs.Streams.{Output}
 use Rattle.osn_report.specs.declared.status.Status.{Status}
-use Rattle.osn_lines.specs.Escape.{escaped}
+use Rattle.osn_lines.specs.Escape.{escaped_text}
 use Rattle.osn_commands.specs.Note.{ReportsNote}
 use Rattle.osn_commands.specs.declared.hindrance_cause.KeepCause.{KeepCause}
 use Rattle.osn_commands.specs.declared.hindrance_cause.KeepCause.TheVariants as causes
@@ -27,19 +27,20 @@ folder_of path = option_and_then if_named (path_parent path)
 -- ---- the cause
 
 -- what is at the path is not a file
-abbrev pub FindsStream : List ℕ → Known → Known → Type 0
+abbrev pub FindsStream : List ℕ → FolderModel → FolderModel → Type 0
 FindsStream path k n = Stays k n × (k.paths.is_stream path ≡ true)
 
 -- no file of this path was found, and its folder was looked for
-abbrev pub LooksBeside : List ℕ → Option Known → Option Known → Type 0
+abbrev pub LooksBeside : List ℕ → Option FolderModel → Option FolderModel → Type 0
 LooksBeside path before after =
     HasNoFile before path
-    × (between : Option Known) × Changes (Opens (path ∷ [])) before between
+    × (between : Option FolderModel) × Changes (Opens (path ∷ [])) before between
     × Changes (Opens (path_if (folder_of path))) between after
 
 -- why a file that no other run has is not kept, which could not be opened to be written to for a
 -- cause that the system said
-abbrev pub FindsCause : List ℕ → OpenFailed → Option Known → Option Known → KeepCause → Type 0
+abbrev pub FindsCause : List ℕ → OpenFailed → Option FolderModel → Option FolderModel → KeepCause
+    → Type 0
 FindsCause path failure before after causes.Held = ⊥
 FindsCause path failure before after causes.NoFile = Changes (FindsStream path) before after
 FindsCause path failure before after causes.Denied =
@@ -54,7 +55,8 @@ FindsCause path failure before after (causes.NotMade why) =
     (why ≡ failure) × LooksBeside path before after
 
 -- the cause after a fault: that another run has the file, or what was found
-abbrev pub IsCauseOf : List ℕ → Option Known → Option Known → KeepFault → KeepCause → Type 0
+abbrev pub IsCauseOf : List ℕ → Option FolderModel → Option FolderModel → KeepFault → KeepCause
+    → Type 0
 IsCauseOf path before after faults.Held cause = (cause ≡ causes.Held) × (after ≡ before)
 IsCauseOf path before after (faults.NotOpened failure) cause =
     FindsCause path failure before after cause
@@ -62,16 +64,17 @@ IsCauseOf path before after (faults.NotOpened failure) cause =
 -- ---- before a publish
 
 -- the file was kept and given back as it was
-abbrev pub KeepsForNow : List ℕ → Option Known → Option Known → Type 0
+abbrev pub KeepsForNow : List ℕ → Option FolderModel → Option FolderModel → Type 0
 KeepsForNow path before after =
-    (between : Option Known) × Changes (Keeps path) before between
+    (between : Option FolderModel) × Changes (Keeps path) before between
     × (contents : Option (List ℕ)) × IsKeptAt before path contents
     × Changes (Leaves path contents) between after
 
 -- it could not be
-abbrev pub CannotKeepBy : List ℕ → Option Known → Option Known → KeepCause → Type 0
+abbrev pub CannotKeepBy : List ℕ → Option FolderModel → Option FolderModel → KeepCause → Type 0
 CannotKeepBy path before after cause =
-    (fault : KeepFault) × (tried : Option Known) × Changes (CannotKeep path fault) before tried
+    (fault : KeepFault) × (tried : Option FolderModel) × Changes
+    (CannotKeep path fault) before tried
     × IsCauseOf path tried after fault cause
 
 -- the cause is that the folder is not there, if there is one
@@ -80,7 +83,8 @@ IsNoFolderIf None = ⊤
 IsNoFolderIf (Some cause) = cause ≡ causes.NoFolder
 
 -- why the file of a path would not be kept, which is there or not. If it is not, it was not made
-abbrev pub FindsHindrance : List ℕ → Bool → Option Known → Option Known → Option KeepCause
+abbrev pub FindsHindrance : List ℕ → Bool → Option FolderModel → Option FolderModel
+    → Option KeepCause
     → Type 0
 FindsHindrance path false before after cause =
     IsNoFolderIf cause × Changes (Opens (path_if (folder_of path))) before after
@@ -113,12 +117,12 @@ cause_words (causes.NotMade why) = make_words why
 
 unfoldable pub no_folder_line : List ℕ → List ℕ → List ℕ
 no_folder_line path folder = codes "oldstyle: "
-    ++ (escaped path
-    ++ (codes ": there is no folder " ++ (escaped folder ++ codes ": make it first\n")))
+    ++ (escaped_text path
+    ++ (codes ": there is no folder " ++ (escaped_text folder ++ codes ": make it first\n")))
 
 abbrev pub cause_line : List ℕ → KeepCause → List ℕ
 cause_line path cause =
-    codes "oldstyle: " ++ (escaped path ++ (codes ": " ++ (cause_words cause ++ codes "\n")))
+    codes "oldstyle: " ++ (escaped_text path ++ (codes ": " ++ (cause_words cause ++ codes "\n")))
 
 abbrev pub folder_line : List ℕ → Option (List ℕ) → List ℕ
 folder_line path None = cause_line path causes.NoFolder
@@ -130,7 +134,8 @@ unkept_line path causes.NoFolder = folder_line path (folder_of path)
 unkept_line path cause = cause_line path cause
 
 -- it was found why the file would not be kept, and reported
-abbrev pub ReportsHindrance : List ℕ → Bool → Option Known → Option Known → Output → Status → Type 0
+abbrev pub ReportsHindrance : List ℕ → Bool → Option FolderModel → Option FolderModel → Output
+    → Status → Type 0
 ReportsHindrance path is_there before after e status =
     (cause : Option KeepCause) × FindsHindrance path is_there before after cause
     × ReportsNote (option_map (unkept_line path) cause) e status

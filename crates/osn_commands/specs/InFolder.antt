@@ -3,7 +3,7 @@ use Rattle.std.specs.Prelude.{◌≡◌, ◌⊎◌, ◌&&◌, Bool, false, true,
 use Rattle.std.specs.Prelude.{None, MatchResult, is_some, option_map}
 use Rattle.osn_core.specs.Edition.{edition_of_word}
 use Rattle.osn_page_commands.specs.Editions.{ReportsEditionWord}
-use Rattle.osn_folder.specs.Folder.{CannotOpen, Changes, IsCauseAt, IsFileOf, Known, Opens}
+use Rattle.osn_folder.specs.Folder.{CannotOpen, Changes, IsCauseAt, IsFileOf, FolderModel, Opens}
 use Rattle.osn_folder.specs.declared.fault.OpenFailed.{OpenFailed}
 use Rattle.osn_folder.specs.declared.fault.OpenFailed.TheVariants as causes
 use Rattle.osn_lines.specs.Streams.{Input, Output}
@@ -21,7 +21,8 @@ use Rattle.osn_commands.specs.Text.{PrintsText}
 use Rattle.osn_commands.specs.declared.plan.PlanEnd.{PlanEnd}
 
 -- the file of this path was opened, and will give these bytes; or there is no such file
-abbrev pub IsOpened : List ℕ → Option (Option (List ℕ)) → Option Known → Option Known → Type 0
+abbrev pub IsOpened : List ℕ → Option (Option (List ℕ)) → Option FolderModel → Option FolderModel
+    → Type 0
 IsOpened path None before after =
     CannotOpen (path ∷ []) before after × IsCauseAt before path causes.NotFound
 IsOpened path (Some bytes) before after =
@@ -61,7 +62,8 @@ refused_if true status = status
 
 -- after a plan that was printed it was reported why the journal could not be kept, if that was
 -- found
-abbrev pub ReportsHindranceAfter : Status → Bool → List ℕ → Bool → Option Known → Option Known
+abbrev pub ReportsHindranceAfter : Status → Bool → List ℕ → Bool → Option FolderModel
+    → Option FolderModel
     → Output → Status → Type 0
 ReportsHindranceAfter statuses.Done refuses path is_there before after e status =
     (reported : Status) × ReportsHindrance path is_there before after e reported
@@ -75,10 +77,10 @@ ReportsHindranceAfter printed refuses path is_there before after e status =
 pub record PlansInFolder (limits : Limits) (path text_path : List ℕ) (strict : Bool)
     (CanFail : Bool → Type 0) (d : Folders) (o e : Output) (status : Status) : Type 0 where
   pub journal : Option Input
-  pub opened : Option Known
+  pub opened : Option FolderModel
   pub opens : IsOpened path (option_map (λ journal. journal.bytes) journal) d.before opened
   pub fails : CanFailIf CanFail journal
-  pub planned : Option Known
+  pub planned : Option FolderModel
   pub between : Option (List ℕ)
   pub failed : Bool
   pub held_back : Bool

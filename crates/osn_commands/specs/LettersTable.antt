@@ -2,7 +2,7 @@
 use Rattle.std.specs.Prelude.{◌⊎◌, Bool, ℕ, List, [], ◌∷◌, Option, Some, None, codes}
 use Rattle.std.specs.Prelude.{if◌then◌else◌}
 use Rattle.std.specs.Str.{bytes_eq}
-use Rattle.osn_folder.specs.Folder.{Changes, Known, Opens}
+use Rattle.osn_folder.specs.Folder.{Changes, FolderModel, Opens}
 use Rattle.osn_invocation.specs.Invocation.{LettersModel}
 use Rattle.osn_lines.specs.Streams.{Input, Output}
 use Rattle.osn_page_commands.specs.LettersFiles.{RunsLetters}
@@ -33,7 +33,7 @@ abbrev pub ReadsFile : Limits → List ℕ → List ℕ → LettersModel → (Bo
     → Output → Status → Type 0
 ReadsFile limits journal path options CanFail d o e status =
     MissesText path d o e status
-    ⊎ ((opened : Option Known) × Changes (Opens (path ∷ [])) d.before opened
+    ⊎ ((opened : Option FolderModel) × Changes (Opens (path ∷ [])) d.before opened
     × (table : Input) × IsReadOf d path CanFail table
     × ReadsOpened limits journal options CanFail (record { before = opened; after = d.after })
     table o e status)

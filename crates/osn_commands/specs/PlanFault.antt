@@ -11,32 +11,32 @@ use Rattle.osn_report.specs.Messages.{EndsBy, ReportsIfMade}
 use Rattle.osn_report.specs.declared.fault.CommandFault.TheVariants as command_faults
 use Rattle.osn_report.specs.declared.status.Status.{Status}
 use Rattle.osn_report.specs.declared.status.Status.TheVariants as statuses
-use Rattle.osn_lines.specs.Escape.{escaped}
+use Rattle.osn_lines.specs.Escape.{escaped_text}
 
 -- what to do about a name that the text changes
 unfoldable pub renamed_help : List ℕ → List ℕ → List ℕ
 renamed_help name new_name = codes "\nhelp: write "
-    ++ (escaped name ++ (codes " again, or give "
-    ++ (escaped new_name ++ codes " a code of its own\n")))
+    ++ (escaped_text name ++ (codes " again, or give "
+    ++ (escaped_text new_name ++ codes " a code of its own\n")))
 
 -- the lines on a name that the text of this path changes: the code of the territory, its name and
 -- the one that the text has
 abbrev pub renamed_line : List ℕ → List ℕ → List ℕ → List ℕ → List ℕ
 renamed_line path code name new_name = codes "oldstyle: "
-    ++ (escaped path
+    ++ (escaped_text path
     ++ (codes ": "
-    ++ (escaped code
+    ++ (escaped_text code
     ++ (codes ": a name can't be changed: it is "
-    ++ (escaped name
-    ++ (codes ", and the text has " ++ (escaped new_name ++ renamed_help name new_name)))))))
+    ++ (escaped_text name
+    ++ (codes ", and the text has " ++ (escaped_text new_name ++ renamed_help name new_name)))))))
 
 -- the line on an edit that is refused, of the territory of this code that the text of this path
 -- has, and how more is allowed if that is at a limit
 abbrev pub refused_line : List ℕ → List ℕ → Refusal → List ℕ
 refused_line path code refusal = codes "oldstyle: "
-    ++ (escaped path
+    ++ (escaped_text path
     ++ (codes ": "
-    ++ (escaped code
+    ++ (escaped_text code
     ++ (codes ": "
     ++ refusal_end (refusal_number refusal) (refusal_name refusal ++ limit_hint refusal)))))
 

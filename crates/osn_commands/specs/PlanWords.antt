@@ -7,7 +7,7 @@ use Rattle.osn_register.specs.Refusal.{refusal_name, refusal_number}
 use Rattle.osn_register.specs.declared.refusal.Refusal.{Refusal}
 use Rattle.osn_report.specs.Fault.{refusal_end}
 use Rattle.osn_report.specs.Hint.{limit_hint}
-use Rattle.osn_lines.specs.Escape.{escaped}
+use Rattle.osn_lines.specs.Escape.{escaped_text}
 
 -- the last line of a plan of this many edits, the next edition having this number
 abbrev pub plan_end : ℕ → ℕ → List ℕ
@@ -20,7 +20,7 @@ plan_end edits next =
 
 -- the line that the journal of a path is new
 unfoldable pub new_line : List ℕ → List ℕ
-new_line path = codes "note: " ++ (escaped path ++ codes " is a new journal\n")
+new_line path = codes "note: " ++ (escaped_text path ++ codes " is a new journal\n")
 
 -- the line that a journal is new, if it has no edition
 abbrev pub new_journal_line : List ℕ → ℕ → List ℕ
@@ -71,4 +71,4 @@ not_kept_line path version = codes "oldstyle: publish refuses a journal of versi
     ++ (decimal (version_number version)
     ++ (codes ": serve --keep with --upgrade saves it as version 4\n"
     ++ (codes "help: run oldstyle serve --keep "
-    ++ (escaped path ++ codes " --upgrade < /dev/null, then publish\n"))))
+    ++ (escaped_text path ++ codes " --upgrade < /dev/null, then publish\n"))))

@@ -1,6 +1,6 @@
 -- What the command `publish` has done over the files of a folder: the journal, and the text.
 use Rattle.std.specs.Prelude.{◌≡◌, ◌⊎◌, Bool, List, [], ◌∷◌, ℕ, Option, None}
-use Rattle.osn_folder.specs.Folder.{Changes, IsKeptAt, Keeps, Known}
+use Rattle.osn_folder.specs.Folder.{Changes, IsKeptAt, Keeps, FolderModel}
 use Rattle.osn_folder.specs.Folder.{Leaves, Opens}
 use Rattle.osn_journal.specs.KeptJournal.{FileState}
 use Rattle.osn_lines.specs.Streams.{Input, Output}
@@ -51,7 +51,7 @@ PublishesKept limits request target CanStay initial input d o e status =
     × Changes (Leaves request.journal file.contents) d.before d.after)
     ⊎ ((bytes : List ℕ) × (journal : List ℕ) × (text : List ℕ) × (cut : Option (List ℕ))
     × IsRewriteNeeded limits request target input.bytes bytes journal text cut
-    × (released : Option Known) × Changes (Leaves request.journal initial.contents) d.before
+    × (released : Option FolderModel) × Changes (Leaves request.journal initial.contents) d.before
     released
     × SavesEdition request.journal bytes journal text cut
     (record { before = released; after = d.after }) o e status)
@@ -63,7 +63,7 @@ abbrev pub KeepsAndPublishes : Limits → RequestModel → RegisterModel → (Bo
 KeepsAndPublishes limits request target CanFail CanStay d o e status =
     ((cause : KeepCause) × CannotKeepBy request.journal d.before d.after cause × (o.new ≡ o.old)
     × ReportsIfMade e statuses.ReadFault (unkept_line request.journal cause) status)
-    ⊎ ((between : Option Known) × Changes (Keeps request.journal) d.before between
+    ⊎ ((between : Option FolderModel) × Changes (Keeps request.journal) d.before between
     × (initial : FileState) × IsKeptAt d.before request.journal initial.contents
     × (initial.fault ≡ None)
     × (input : Input) × (input.bytes ≡ initial.contents) × CanFail input.unread
@@ -77,7 +77,7 @@ KeepsAndPublishes limits request target CanFail CanStay d o e status =
 pub record PublishesInFolder (limits : Limits) (path text_path : List ℕ) (onto_newest : Bool)
     (CanFail : Bool → Type 0) (CanStay : Type 0) (d : Folders) (o e : Output) (status : Status)
     : Type 0 where
-  pub opened : Option Known
+  pub opened : Option FolderModel
   pub opens : Changes (Opens (text_path ∷ [])) d.before opened
   pub text : Input
   pub reads : IsReadOf d text_path CanFail text

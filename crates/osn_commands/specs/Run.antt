@@ -175,8 +175,8 @@ RunsWords arguments args CanFail CanStay d i o e status =
 
 -- what it does with the typed words: they may leave out the file of the journal, if this is the
 -- default, or name it by an option, and `help --help` is `--help`
-abbrev pub RunsArgs : Option Text → List Text → (Bool → Type 0) → Type 0 → Folders → Input
+abbrev pub RunsArguments : Option Text → List Text → (Bool → Type 0) → Type 0 → Folders → Input
     → Output → Output → Status → Type 0
-RunsArgs default arguments CanFail CanStay d i o e status =
+RunsArguments default arguments CanFail CanStay d i o e status =
     RunsWords arguments (with_journal default (with_plain_help arguments)) CanFail CanStay d i o e
     status

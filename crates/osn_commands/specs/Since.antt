@@ -14,7 +14,7 @@ use Rattle.osn_register.specs.declared.edit.Edit.{Edit}
 use Rattle.osn_register.specs.declared.edit.Edit.TheVariants.{AddLand, AddChange, AlterChange}
 use Rattle.osn_register.specs.declared.edit.Edit.TheVariants.{DropChange, AddException}
 use Rattle.osn_register.specs.declared.edit.Edit.TheVariants.{DropException}
-use Rattle.osn_lines.specs.Escape.{escaped}
+use Rattle.osn_lines.specs.Escape.{escaped_text}
 use Rattle.osn_commands.specs.declared.since.Item.{Item}
 use Rattle.osn_commands.specs.declared.since.Item.TheVariants.{Period, Easter}
 use Rattle.osn_commands.specs.declared.since.PublishRequest.{PublishRequest}
@@ -85,11 +85,11 @@ hindering_edition request batches edits =
 -- the lines on a text of an edition that the journal lacks, which has this many
 unfoldable pub later_lines : List ℕ → List ℕ → ℕ → ℕ → List ℕ
 later_lines text journal edition editions = codes "oldstyle: "
-    ++ (escaped text
+    ++ (escaped_text text
     ++ (codes ": edition: "
     ++ (decimal edition
     ++ (codes " is later than the newest edition of "
-    ++ (escaped journal
+    ++ (escaped_text journal
     ++ (codes ", which is "
     ++ (decimal editions
     ++ codes "\nhelp: write the edition that the text was made from, or leave the line out\n")))))))
@@ -107,15 +107,15 @@ editions_lines territories number (batch ∷ batches) =
 
 unfoldable pub behind_begin : List ℕ → List ℕ → ℕ → List ℕ
 behind_begin text journal edition = codes "oldstyle: "
-    ++ (escaped text
+    ++ (escaped_text text
     ++ (codes ": the text was made from edition "
     ++ (decimal edition
     ++ (codes ", and would undo or change again what later editions of "
-    ++ (escaped journal ++ codes " changed:\n")))))
+    ++ (escaped_text journal ++ codes " changed:\n")))))
 
 unfoldable pub behind_end : List ℕ → ℕ → List ℕ
 behind_end journal editions = codes "help: print the text again with oldstyle text "
-    ++ (escaped journal
+    ++ (escaped_text journal
     ++ (codes "; or write edition = "
     ++ (decimal editions
     ++ codes " in it, if it has these edits; or publish it anyway with --onto-newest\n")))

@@ -13,7 +13,7 @@ use Rattle.osn_report.specs.OpenFailure.{open_failure_line}
 use Rattle.osn_report.specs.declared.fault.CommandFault.TheVariants as command_faults
 use Rattle.osn_report.specs.declared.status.Status.{Status}
 use Rattle.osn_report.specs.declared.status.Status.TheVariants as statuses
-use Rattle.osn_lines.specs.Escape.{escaped}
+use Rattle.osn_lines.specs.Escape.{escaped_text}
 use Rattle.osn_register_text.specs.FaultHelp.{fault_help}
 use Rattle.osn_register_text.specs.Text.{IsFaultOf, text_of_table}
 use Rattle.osn_register_text.specs.Words.{text_fault_text}
@@ -56,12 +56,12 @@ IsTextFileFault limits text fault =
 -- the line on a text of this path
 abbrev pub text_line : List ℕ → List ℕ → List ℕ
 text_line path message =
-    codes "oldstyle: " ++ (escaped path ++ (codes ": " ++ (message ++ codes "\n")))
+    codes "oldstyle: " ++ (escaped_text path ++ (codes ": " ++ (message ++ codes "\n")))
 
 -- the line on a fault of a text of this path, and the line of help below it, if there is one
 abbrev pub fault_lines : List ℕ → TextFault → List ℕ
 fault_lines path fault = codes "oldstyle: "
-    ++ (escaped path
+    ++ (escaped_text path
     ++ (codes ": " ++ (text_fault_text fault ++ (codes "\n" ++ fault_help fault))))
 
 -- it was reported what a text says wrongly, or that memory ran out

@@ -31,7 +31,7 @@ fn register_line(alloc: Global, register: &Register) -> Result<String, AllocErro
     ensures { IfOk result (λ line.
         string_bytes line ≡ spec.checked_line (length register.now.territories)) }
 {
-    let territories = register.listed()?;
+    let territories = register.list_territories()?;
     checked_line(alloc, territories.len())
 }
 

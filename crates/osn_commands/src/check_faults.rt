@@ -5,7 +5,7 @@ ghost use Rattle.osn_lines.specs.Streams.{output_of};
 ghost use Rattle.osn_register_text.specs.TableLine.{table_line as line_of_table};
 ghost use Rattle.osn_commands.specs.CheckFaults as spec;
 
-use osn_lines::{Escaped, Sink};
+use osn_lines::{EscapedText, Sink};
 use osn_register::Limits;
 use osn_register_text::{KeyFault, further_faults, key_fault_help, table_line};
 use osn_report::{Status, report_line, report_no_memory};
@@ -17,7 +17,7 @@ fn place_note(alloc: Global, code: &str, line: Option<usize>) -> Result<String, 
     ensures { IfOk result (λ note. string_bytes note ≡ spec.place_note code.now line) }
 {
     match line {
-        Some(line) => format!(in alloc; "note: {} begins on line {line}\n", Escaped(code)),
+        Some(line) => format!(in alloc; "note: {} begins on line {line}\n", EscapedText(code)),
         None => Ok(String::new(alloc)),
     }
 }
@@ -44,7 +44,11 @@ fn push_fault(
 {
     let help = key_fault_help(alloc, fault)?;
     let note = place_in_text(alloc, fault.code.as_str(), text)?;
-    write!(lines, "oldstyle: {}: {fault}\n{help}{note}", Escaped(path))
+    write!(
+        lines,
+        "oldstyle: {}: {fault}\n{help}{note}",
+        EscapedText(path)
+    )
 }
 
 /// Appends faults of a text, each as `push_fault` does.

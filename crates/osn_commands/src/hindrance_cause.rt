@@ -5,7 +5,7 @@ ghost use Rattle.osn_lines.specs.Streams.{output_of};
 ghost use Rattle.osn_commands.specs.HindranceCause as spec;
 
 use osn_folder::{Folder, KeepFault, OpenFailed};
-use osn_lines::{Escaped, Sink};
+use osn_lines::{EscapedText, Sink};
 use osn_report::{Status, report_line};
 use std::alloc::{AllocError, Global};
 use std::path::Path;
@@ -160,8 +160,8 @@ fn no_folder_line(alloc: Global, path: &str, folder: &str) -> Result<String, All
     ensures { IfOk result (λ line. string_bytes line
         ≡ spec.no_folder_line path.now folder.now) }
 {
-    let path = Escaped(path);
-    let folder = Escaped(folder);
+    let path = EscapedText(path);
+    let folder = EscapedText(folder);
     format!(in alloc; "oldstyle: {path}: there is no folder {folder}: make it first\n")
 }
 
@@ -173,7 +173,7 @@ pub(crate) fn unkept_line(alloc: Global, path: &str, cause: KeepCause) -> Result
         (KeepCause::NoFolder, Some(folder)) => no_folder_line(alloc, path, folder),
         _ => {
             let words = cause_words(cause);
-            format!(in alloc; "oldstyle: {}: {words}\n", Escaped(path))
+            format!(in alloc; "oldstyle: {}: {words}\n", EscapedText(path))
         }
     }
 }

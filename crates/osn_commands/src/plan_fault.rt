@@ -3,7 +3,7 @@ ghost use Rattle.std.specs.Prelude.{◌≡◌, IfOk, string_bytes};
 ghost use Rattle.osn_lines.specs.Streams.{output_of};
 ghost use Rattle.osn_commands.specs.PlanFault as spec;
 
-use osn_lines::{Escaped, Sink};
+use osn_lines::{EscapedText, Sink};
 use osn_register::Refusal;
 use osn_register_text::PlanFault;
 use osn_report::{Status, limit_hint, report_line, report_no_memory};
@@ -14,8 +14,8 @@ use std::alloc::{AllocError, Global};
 fn renamed_help(alloc: Global, name: &str, new_name: &str) -> Result<String, AllocError>
     ensures { IfOk result (λ help. string_bytes help ≡ spec.renamed_help name.now new_name.now) }
 {
-    let name = Escaped(name);
-    let new_name = Escaped(new_name);
+    let name = EscapedText(name);
+    let new_name = EscapedText(new_name);
     format!(in alloc; "\nhelp: write {name} again, or give {new_name} a code of its own\n")
 }
 
@@ -33,10 +33,10 @@ fn renamed_line(
     let help = renamed_help(alloc, name, new_name)?;
     format!(in alloc;
         "oldstyle: {}: {}: a name can't be changed: it is {}, and the text has {}{help}",
-        Escaped(path),
-        Escaped(code),
-        Escaped(name),
-        Escaped(new_name)
+        EscapedText(path),
+        EscapedText(code),
+        EscapedText(name),
+        EscapedText(new_name)
     )
 }
 
@@ -54,8 +54,8 @@ fn refused_line(
     let number = refusal.number();
     let name = refusal.name();
     let hint = limit_hint(refusal);
-    let path = Escaped(path);
-    let code = Escaped(code);
+    let path = EscapedText(path);
+    let code = EscapedText(code);
     format!(in alloc; "oldstyle: {path}: {code}: {number} {name}{hint}\n")
 }
 

@@ -2,7 +2,7 @@
 ghost use Rattle.std.specs.Prelude.{◌≡◌, ◌++◌, IfOk, OnOk, string_bytes};
 ghost use Rattle.osn_commands.specs.PlanWords as spec;
 
-use osn_lines::Escaped;
+use osn_lines::EscapedText;
 use osn_register::Refusal;
 use osn_report::limit_hint;
 use osn_request::Version;
@@ -32,7 +32,7 @@ pub(crate) fn push_new_journal(
         (string_bytes out.new ≡ string_bytes out.old ++ spec.new_journal_line path.now editions) }
 {
     match editions {
-        0 => writeln!(out, "note: {} is a new journal", Escaped(path)),
+        0 => writeln!(out, "note: {} is a new journal", EscapedText(path)),
         _ => Ok(()),
     }
 }
@@ -89,7 +89,7 @@ pub(crate) fn pending_line(alloc: Global, pending: usize) -> Result<String, Allo
 pub(crate) fn new_line(alloc: Global, path: &str) -> Result<String, AllocError>
     ensures { IfOk result (λ line. string_bytes line ≡ spec.new_line path.now) }
 {
-    format!(in alloc; "note: {} is a new journal\n", Escaped(path))
+    format!(in alloc; "note: {} is a new journal\n", EscapedText(path))
 }
 
 /// Returns the line on edits that a publish refuses.
@@ -122,7 +122,7 @@ pub(crate) fn not_kept_line(
     ensures { IfOk result (λ line. string_bytes line ≡ spec.not_kept_line path.now version) }
 {
     let number = version.number();
-    let path = Escaped(path);
+    let path = EscapedText(path);
     format!(in alloc;
         "oldstyle: publish refuses a journal of version {number}: serve --keep with --upgrade \
 saves it as version 4\nhelp: run oldstyle serve --keep {path} --upgrade < /dev/null, \

@@ -10,7 +10,7 @@ ghost use Rattle.osn_report.specs.Folders.{folders_of};
 ghost use Rattle.osn_report.specs.Printing.{PrintsOrReports};
 ghost use Rattle.osn_report.specs.declared.fault.CommandFault.{CommandFault};
 ghost use Rattle.osn_commands.specs.PublishInside.{CanStay};
-ghost use Rattle.osn_commands.specs.Run.{Fails, Runs, RunsArgs, RunsInvocation, RunsWords};
+ghost use Rattle.osn_commands.specs.Run.{Fails, Runs, RunsArguments, RunsInvocation, RunsWords};
 
 use crate::check::check_in_folder;
 use crate::completion_script::completions_command;
@@ -24,7 +24,7 @@ use crate::letters_table::table_in_folder;
 use crate::limits::limits_of_words;
 use osn_file_commands::{audit_in_folder, desk_in_folder, replay_in_folder};
 use osn_folder::{Folder, OpenFailed};
-use osn_invocation::{CommandWords, Invocation, parse_args};
+use osn_invocation::{CommandWords, Invocation, parse_arguments};
 use osn_lines::{Sink, Source};
 use osn_page_commands::{convert_command, editions_in_folder, page_in_folder};
 use osn_register::Limits;
@@ -57,7 +57,7 @@ pub fn run<F, D: Folder, S: AsStr, R: Source, W: Sink, E: Sink, T: Sink + Drop>(
 ) -> Status
 where
     F: Threads + Wait + AllocGlobal,
-    ensures { RunsArgs (option_map (λ path. path.now) default_journal.entry)
+    ensures { RunsArguments (option_map (λ path. path.now) default_journal.entry)
         (map S.text args.now) (MayFail D.File.has_failed)
         (CanStay D.Keeper.cut_back_may_fail)
         (folders_of D.known folder.old folder.new)
@@ -94,7 +94,7 @@ where
         (output_of E.contents E.has_failed E.holds_back errors.old errors.new) result }
 {
     let alloc = rt.alloc();
-    match parse_args(alloc, words) {
+    match parse_arguments(alloc, words) {
         Ok(invocation) => run_invocation(rt, folder, invocation, input, output, errors, terminal),
         Err(error) => {
             let help = help_on(&error, arguments);

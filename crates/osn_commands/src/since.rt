@@ -6,7 +6,7 @@ ghost use Rattle.osn_commands.specs.Since as spec;
 ghost use Rattle.osn_commands.specs.Text.{published};
 
 use osn_core::{Batch, Object};
-use osn_lines::Escaped;
+use osn_lines::EscapedText;
 use osn_register::{Edit, Register};
 use osn_register_text::plan_page;
 use std::alloc::{AllocError, Global};
@@ -146,8 +146,8 @@ pub(crate) fn later_lines(
     ensures { IfOk result (λ lines. string_bytes lines
         ≡ spec.later_lines text.now journal.now edition editions) }
 {
-    let text = Escaped(text);
-    let journal = Escaped(journal);
+    let text = EscapedText(text);
+    let journal = EscapedText(journal);
     format!(in alloc;
         "oldstyle: {text}: edition: {edition} is later than the newest edition of {journal}, \
 which is {editions}\nhelp: write the edition that the text was made from, or leave the line out\n"
@@ -193,8 +193,8 @@ fn push_begin(out: &mut String, request: PublishRequest<'_>, edition: u64) -> Re
     ensures { OnOk result (string_bytes out.new ≡ string_bytes out.old
         ++ spec.behind_begin request.entry.text.now request.entry.journal.now edition) }
 {
-    let text = Escaped(request.text);
-    let journal = Escaped(request.journal);
+    let text = EscapedText(request.text);
+    let journal = EscapedText(request.journal);
     writeln!(
         out,
         "oldstyle: {text}: the text was made from edition {edition}, and would undo or change \
@@ -208,7 +208,7 @@ fn push_end(out: &mut String, journal: &str, editions: usize) -> Result<(), Allo
     ensures { OnOk result (string_bytes out.new ≡ string_bytes out.old
         ++ spec.behind_end journal.now editions) }
 {
-    let journal = Escaped(journal);
+    let journal = EscapedText(journal);
     writeln!(
         out,
         "help: print the text again with oldstyle text {journal}; or write edition = {editions} \

@@ -4,7 +4,7 @@ ghost use Rattle.osn_lines.specs.Streams.{input_of, output_of};
 ghost use Rattle.osn_commands.specs.TextFile as spec;
 
 use osn_folder::OpenFailed;
-use osn_lines::{Escaped, ReadAllFault, Sink, Source, read_all};
+use osn_lines::{EscapedText, ReadAllFault, Sink, Source, read_all};
 use osn_register::Limits;
 use osn_register_text::{RegisterText, TextFault, fault_help, parse_text};
 use osn_report::{Status, report_line, report_no_memory, report_open_failure};
@@ -70,7 +70,7 @@ pub(crate) fn read_register_text<T: Source>(
 fn text_line(alloc: Global, path: &str, message: &str) -> Result<String, AllocError>
     ensures { IfOk result (λ line. string_bytes line ≡ spec.text_line path.now message.now) }
 {
-    format!(in alloc; "oldstyle: {}: {message}\n", Escaped(path))
+    format!(in alloc; "oldstyle: {}: {message}\n", EscapedText(path))
 }
 
 /// Returns the line on a fault of the text of this path, and the one below it, if there is one.
@@ -78,7 +78,7 @@ fn fault_lines(alloc: Global, path: &str, fault: &TextFault) -> Result<String, A
     ensures { IfOk result (λ lines. string_bytes lines ≡ spec.fault_lines path.now fault.now) }
 {
     let help = fault_help(alloc, fault)?;
-    format!(in alloc; "oldstyle: {}: {fault}\n{help}", Escaped(path))
+    format!(in alloc; "oldstyle: {}: {fault}\n{help}", EscapedText(path))
 }
 
 /// Reports on standard error the fault in the text of this path. Returns the status.

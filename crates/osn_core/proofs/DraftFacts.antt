@@ -11,7 +11,7 @@ use Rattle.osn_register.specs.declared.edit.Edit.{Edit}
 use Rattle.osn_register.specs.declared.refusal.Refusal.{Refusal}
 use Rattle.osn_register.specs.declared.refusal.Refusal.TheVariants.{NothingPending, JournalFull}
 use Rattle.osn_register.specs.declared.refusal.Refusal.TheVariants.{EditionsFull}
-use Rattle.osn_register.specs.Plain.{applied_all, effect, refusal}
+use Rattle.osn_register.specs.Plain.{after_edits, effect, refusal}
 use Rattle.osn_register.specs.Refusal.{or_else}
 use Rattle.osn_core.specs.Sequential.{ObjectState, joined, territories_of, draft_territories}
 use Rattle.osn_core.specs.Sequential.{edits_in, with_edition, with_pending, stage_refusal}
@@ -19,7 +19,7 @@ use Rattle.osn_core.specs.Sequential.{publish_refusal}
 use Rattle.osn_core.specs.Draft.{DraftState, object_of, IsDraftOf, edit_refusal, edition_refusal}
 use Rattle.osn_core.specs.Draft.{draft_with_edit, draft_with_edition}
 use Rattle.osn_core.proofs.Batches.{joined-push}
-use Rattle.osn_core.proofs.Lawful.{applied_all-append, applied-lawful}
+use Rattle.osn_core.proofs.Lawful.{after_edits-append, after_edit-lawful}
 
 test_passed : (b : Bool) (f : Refusal) → cond b None (Some f) ≡ None → b ≡ true
 test_passed true f h = refl
@@ -43,9 +43,9 @@ lawful_in_draft p s e none = (or_else-none (refusal p s.limits (draft_territorie
 pub draft_with : (p : Rules) (s : ObjectState) (e : Edit) → stage_refusal p s e ≡ None →
     effect (draft_territories p s) e ≡ draft_territories p (with_pending s e)
 draft_with p s e none =
-    sym (applied-lawful p s.limits (draft_territories p s) e (lawful_in_draft p s e none))
-    ∙ sym (applied_all-append p s.limits [] (joined s.batches ++ s.pending) (e ∷ []))
-    ∙ ap (applied_all p s.limits []) (append_assoc (joined s.batches) s.pending (e ∷ []))
+    sym (after_edit-lawful p s.limits (draft_territories p s) e (lawful_in_draft p s e none))
+    ∙ sym (after_edits-append p s.limits [] (joined s.batches ++ s.pending) (e ∷ []))
+    ∙ ap (after_edits p s.limits []) (append_assoc (joined s.batches) s.pending (e ∷ []))
 
 pub edits_with : (s : ObjectState) (e : Edit) → edits_in (with_pending s e) ≡ edits_in s + 1
 edits_with s e = omega (arith, length-append s.pending (e ∷ []))
@@ -53,13 +53,13 @@ edits_with s e = omega (arith, length-append s.pending (e ∷ []))
 -- the register of the draft is that of the next edition
 pub draft_register : (p : Rules) (s : ObjectState) →
     draft_territories p s ≡ territories_of p s.limits (s.batches ++ s.pending ∷ [])
-draft_register p s = ap (λ es. applied_all p s.limits [] es) (sym (joined-push s.batches s.pending))
+draft_register p s = ap (λ es. after_edits p s.limits [] es) (sym (joined-push s.batches s.pending))
 
 -- once the next edition is published, the register of the draft is still that of all edits
 pub draft_published : (p : Rules) (s : ObjectState) →
     draft_territories p s ≡ draft_territories p (with_edition s)
 draft_published p s = draft_register p s
-    ∙ ap (λ es. applied_all p s.limits [] es)
+    ∙ ap (λ es. after_edits p s.limits [] es)
     (sym (append-nil (joined (s.batches ++ s.pending ∷ []))))
 
 pub edits_published : (s : ObjectState) → edits_in s ≡ edits_in (with_edition s)

@@ -9,7 +9,7 @@ use Rattle.osn_register.specs.declared.refusal.Refusal.{Refusal}
 use Rattle.osn_register.specs.declared.edit.Edit.{Edit}
 use Rattle.osn_core.specs.declared.step.Reply.{Reply}
 use Rattle.osn_core.specs.declared.step.Step.{Step}
-use Rattle.osn_core.specs.Sequential.{ObjectState, opened, stage_refusal, publish_refusal}
+use Rattle.osn_core.specs.Sequential.{ObjectState, empty_object, stage_refusal, publish_refusal}
 use Rattle.osn_core.specs.Sequential.{with_pending, with_edition, state_unless}
 use Rattle.osn_core.specs.Sequential.{stage_after, publish_after, reply_at}
 use Rattle.osn_core.specs.Control.{reader_at, all_idle}
@@ -66,7 +66,7 @@ begin_rises floor (x ∷ xs) ys h = (h.0, begin_rises x.edition xs ys h.1)
 -- from the first state on, the replies to a reader begin those that the sequential object gives it
 pub outs_begin : (p : Rules) (limits : Limits) (readers : ℕ) (steps : List Step) (r : ℕ) →
     let outs = outs_of p (first_core limits readers) steps in
-    Begin (replies_to r outs) (replies_to r (outs_to p (opened limits) (history steps outs)))
+    Begin (replies_to r outs) (replies_to r (outs_to p (empty_object limits) (history steps outs)))
 outs_begin p limits readers steps r =
     let first = first_core limits readers in
     let outs = outs_of p first steps in
@@ -77,7 +77,7 @@ outs_begin p limits readers steps r =
     record {
       rest = all.0;
       is = all.1
-          ∙ ap (λ l. l ++ replies_to r (outs_to p (opened limits) (history steps outs))) none;
+          ∙ ap (λ l. l ++ replies_to r (outs_to p (empty_object limits) (history steps outs))) none;
     }
 
 pub outs_rise : (p : Rules) (limits : Limits) (readers : ℕ) (steps : List Step) (r : ℕ) →
@@ -87,4 +87,4 @@ outs_rise p limits readers steps r =
     let begin = outs_begin p limits readers steps r in
     begin_rises 0 (replies_to r outs) begin.rest
     (subst (λ rs. NeverFalls 0 (editions rs)) (sym begin.is)
-    (editions_rise p r (opened limits) (history steps outs) 0 (omega arith)))
+    (editions_rise p r (empty_object limits) (history steps outs) 0 (omega arith)))

@@ -9,7 +9,7 @@ use Rattle.osn_days.specs.Rules.{newest_rules}
 use Rattle.osn_register.specs.declared.limits.Limits.{Limits}
 use Rattle.osn_register.specs.declared.edit.Edit.{Edit}
 use Rattle.osn_register.specs.Lawful.{AreLawful}
-use Rattle.osn_register.specs.Plain.{EntryModel, RegisterModel, refusal, effect, applied_all}
+use Rattle.osn_register.specs.Plain.{EntryModel, RegisterModel, refusal, effect, after_edits}
 use Rattle.osn_core.specs.Sequential.{joined, last_batch, without_last, HasLawfulSource}
 use Rattle.osn_core.specs.Draft.{DraftState, object_of, edit_refusal, edition_refusal}
 use Rattle.osn_core.specs.Draft.{draft_with_edit, draft_with_edition}
@@ -22,7 +22,7 @@ use Rattle.osn_core.proofs.Lawful.{AreLawful-push, AreLawful-front, lawful_at, a
 
 abbrev register_of : Limits → List Edit → RegisterModel
 register_of limits es =
-    record { limits = limits; territories = applied_all newest_rules limits [] es }
+    record { limits = limits; territories = after_edits newest_rules limits [] es }
 
 -- if any edit is pending, the standby lacks none
 pub none_lacked : (d : DraftState) (bs : List (List Edit)) (lag : ℕ) (other : RegisterModel) →
@@ -152,7 +152,7 @@ one_absorbed d bs lag other after e h at is =
           ∙ ap (λ (ls : List EntryModel). record { limits = limits; territories = ls })
           (applied_at newest_rules limits [] (joined bs) (length (joined bs) - lag) e at.within
           at.is (published_lawful d bs lag other h)
-          ∙ ap (λ n. applied_all newest_rules limits [] (take n (joined bs))) at.more);
+          ∙ ap (λ n. after_edits newest_rules limits [] (take n (joined bs))) at.more);
       lag_is_of_last = omega (arith, h.lag_is_of_last);
       caught_up = elim h.caught_up [
         | inl nothing ↦ inl nothing

@@ -7,7 +7,7 @@ use Rattle.std.proofs.lemmas.Bool.{false≢true}
 use Rattle.std.proofs.lemmas.Bool.Decides.{nat_tests}
 use Rattle.std.proofs.lemmas.List.{take_all}
 use Rattle.osn_days.specs.Rules.{newest_rules}
-use Rattle.osn_register.specs.Plain.{EntryModel, applied_all}
+use Rattle.osn_register.specs.Plain.{EntryModel, after_edits}
 use Rattle.osn_register.specs.declared.query.Query.{Query}
 use Rattle.osn_core.specs.declared.phase.Phase.{Phase}
 use Rattle.osn_core.specs.declared.phase.Phase.TheVariants.{Ready, Draining, Claimed}
@@ -119,14 +119,14 @@ claimed_placed live n readers none all r = claimed_at live n (reader_at readers 
 -- what the standby shows, by the phase
 lagging_is : (s : ObjectState) (lag : ℕ) → s.pending ≡ [] →
     lagging_territories newest_rules (record { object = s; lag = lag })
-    ≡ applied_all newest_rules s.limits [] (without_last lag (joined s.batches))
-lagging_is s lag none = ap (λ es. applied_all newest_rules s.limits [] (without_last lag es))
+    ≡ after_edits newest_rules s.limits [] (without_last lag (joined s.batches))
+lagging_is s lag none = ap (λ es. after_edits newest_rules s.limits [] (without_last lag es))
     (ap (λ es. joined s.batches ++ es) none ∙ append-nil (joined s.batches))
 
 standby_register : (s : ObjectState) (lag : ℕ) (phase : Phase) → IsLag s lag phase →
     lagging_territories newest_rules (record { object = s; lag = lag })
     ≡ standby_territories newest_rules s lag phase
-standby_register s lag Ready h = ap (applied_all newest_rules s.limits [])
+standby_register s lag Ready h = ap (after_edits newest_rules s.limits [])
     (without_none (joined s.batches ++ s.pending) lag h)
 standby_register s lag Draining h = lagging_is s lag h.0
 standby_register s lag Claimed h = lagging_is s lag h
@@ -152,7 +152,7 @@ draining_is : (s : ObjectState) (lag : ℕ) (phase : Phase) (k : ℕ) → IsLag 
     standby_territories newest_rules s lag phase ≡ edition_territories newest_rules s k
 draining_is s lag Ready k h is all = cc
 draining_is s lag Draining k h is all =
-    ap (applied_all newest_rules s.limits [])
+    ap (after_edits newest_rules s.limits [])
     (ap (λ n. without_last n (joined s.batches)) h.1 ∙ without_batch s.batches k all)
 draining_is s lag Claimed k h is all = cc
 

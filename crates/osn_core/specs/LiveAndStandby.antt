@@ -2,7 +2,7 @@
 use Rattle.std.specs.Prelude.{ℕ, ◌≡◌, ◌==◌, if◌then◌else◌, List, [], take, Option}
 use Rattle.std.specs.Prelude.{Some}
 use Rattle.osn_days.specs.Rules.{Rules}
-use Rattle.osn_register.specs.Plain.{EntryModel, applied_all}
+use Rattle.osn_register.specs.Plain.{EntryModel, after_edits}
 use Rattle.osn_core.specs.declared.phase.Phase.{Phase}
 use Rattle.osn_core.specs.declared.phase.Phase.TheVariants.{Ready}
 use Rattle.osn_core.specs.declared.reader.ReaderState.{ReaderState}
@@ -14,7 +14,7 @@ use Rattle.osn_core.specs.Machine.{CoreState}
 
 -- the territories of the published edits, without the last ones
 abbrev pub published_but_last : Rules → ObjectState → ℕ → List EntryModel
-published_but_last p s lag = applied_all p s.limits [] (without_last lag (joined s.batches))
+published_but_last p s lag = after_edits p s.limits [] (without_last lag (joined s.batches))
 
 -- the territories of the standby. In Ready it has all edits, published and pending. Otherwise it
 -- lacks the last published edits, as many as the lag

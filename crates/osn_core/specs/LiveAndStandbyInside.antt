@@ -4,9 +4,9 @@ use Rattle.std.specs.Prelude.{◌≡◌, ℕ, ◌≤◌, ◌⊎◌, List, [], �
 use Rattle.osn_days.specs.Rules.{Rules, newest_rules}
 use Rattle.osn_register.specs.declared.limits.Limits.{Limits}
 use Rattle.osn_register.specs.declared.edit.Edit.{Edit}
-use Rattle.osn_register.specs.Plain.{EntryModel, RegisterModel, applied_all}
+use Rattle.osn_register.specs.Plain.{EntryModel, RegisterModel, after_edits}
 use Rattle.osn_core.specs.declared.live_and_standby.LiveAndStandby.TheInside.{Inside}
-use Rattle.osn_core.specs.Sequential.{ObjectState, opened, joined, IsSound, last_batch}
+use Rattle.osn_core.specs.Sequential.{ObjectState, empty_object, joined, IsSound, last_batch}
 use Rattle.osn_core.specs.Sequential.{without_last}
 use Rattle.osn_core.specs.Draft.{DraftState, object_of, IsDraftOf}
 
@@ -16,11 +16,11 @@ pub record CopiesState : Type 0 where
   pub lag : ℕ
 
 abbrev pub first_copies : Limits → CopiesState
-first_copies limits = record { object = opened limits; lag = 0 }
+first_copies limits = record { object = empty_object limits; lag = 0 }
 
 -- the territories of all edits, published and pending, except the last ones
 abbrev pub lagging_territories : Rules → CopiesState → List EntryModel
-lagging_territories p c = applied_all p c.object.limits []
+lagging_territories p c = after_edits p c.object.limits []
     (without_last c.lag (joined c.object.batches ++ c.object.pending))
 
 abbrev pub copies_in : Inside → CopiesState
@@ -34,7 +34,7 @@ pub record AreInStep (d : DraftState) (batches : List (List Edit)) (lag : ℕ) (
   pub other_is : other ≡
       record {
         limits = d.register.limits;
-        territories = applied_all newest_rules d.register.limits []
+        territories = after_edits newest_rules d.register.limits []
             (without_last lag (joined batches));
       }
   pub lag_is_of_last : lag ≤ length (last_batch batches)

@@ -16,7 +16,7 @@ use Rattle.osn_core.specs.declared.step.Step.TheVariants.{Look, Pin, Check, Answ
 use Rattle.osn_core.specs.declared.step.Step.TheVariants.{Publish, Claim, Absorb}
 use Rattle.osn_core.specs.declared.step.Out.{Out}
 use Rattle.osn_core.specs.declared.step.Out.TheVariants as Says
-use Rattle.osn_core.specs.Sequential.{ObjectState, opened, reply_at, stage_out, stage_after}
+use Rattle.osn_core.specs.Sequential.{ObjectState, empty_object, reply_at, stage_out, stage_after}
 use Rattle.osn_core.specs.Sequential.{publish_out, publish_after, publish_refusal}
 use Rattle.osn_core.specs.Control.{Control, first_control, reader_at, Move, stays, look, pin, check}
 use Rattle.osn_core.specs.Control.{leave, out_at, readers_after, is_marked, claim_out}
@@ -31,7 +31,7 @@ pub record CoreState : Type 0 where
   pub control : Control
 
 abbrev pub first_core : Limits → ℕ → CoreState
-first_core limits readers = record { object = opened limits; control = first_control readers }
+first_core limits readers = record { object = empty_object limits; control = first_control readers }
 
 -- a reader that has entered gets the sequential object's reply under the editions of that time
 abbrev pub answer : Rules → ObjectState → ℕ → ReaderState → Move

@@ -5,7 +5,7 @@ use Rattle.osn_register.specs.declared.limits.Limits.{Limits}
 use Rattle.osn_register.specs.declared.edit.Edit.{Edit}
 use Rattle.osn_core.specs.declared.command.Command.{Command}
 use Rattle.osn_core.specs.declared.command.Command.TheVariants.{Stage, Publish}
-use Rattle.osn_core.specs.Sequential.{ObjectState, opened, stage_after, publish_after}
+use Rattle.osn_core.specs.Sequential.{ObjectState, empty_object, stage_after, publish_after}
 
 -- whether a copy of a command takes memory
 abbrev pub copy_takes_memory : Command → Bool
@@ -23,4 +23,4 @@ script_after p s commands = fold (command_after p) s commands
 
 -- the editions of a script: the batches that it leaves of the empty object
 abbrev pub editions_of : Rules → Limits → List Command → List (List Edit)
-editions_of p limits commands = (script_after p (opened limits) commands).batches
+editions_of p limits commands = (script_after p (empty_object limits) commands).batches

@@ -11,7 +11,7 @@ use Rattle.osn_register.specs.declared.refusal.Refusal.TheVariants.{NothingPendi
 use Rattle.osn_register.specs.declared.refusal.Refusal.TheVariants.{EditionsFull}
 use Rattle.osn_register.specs.Refusal.{or_else}
 use Rattle.osn_register.specs.Lawful.{AreLawful, source_given}
-use Rattle.osn_register.specs.Plain.{EntryModel, refusal, applied_all}
+use Rattle.osn_register.specs.Plain.{EntryModel, refusal, after_edits}
 use Rattle.osn_register.specs.Answer.{answer}
 use Rattle.osn_register.specs.Sources.{IsGiven}
 use Rattle.osn_core.specs.declared.step.Reply.{Reply}
@@ -23,8 +23,8 @@ pub record ObjectState : Type 0 where
   pub batches : List (List Edit)
   pub pending : List Edit
 
-abbrev pub opened : Limits → ObjectState
-opened limits = record { limits = limits; batches = []; pending = [] }
+abbrev pub empty_object : Limits → ObjectState
+empty_object limits = record { limits = limits; batches = []; pending = [] }
 
 -- the edits of batches, in order
 abbrev pub joined : List (List Edit) → List Edit
@@ -41,11 +41,11 @@ without_last count edits = take (length edits - count) edits
 
 -- the territories of the published edits
 abbrev pub territories_of : Rules → Limits → List (List Edit) → List EntryModel
-territories_of p limits batches = applied_all p limits [] (joined batches)
+territories_of p limits batches = after_edits p limits [] (joined batches)
 
 -- the territories of all published and pending edits
 abbrev pub draft_territories : Rules → ObjectState → List EntryModel
-draft_territories p s = applied_all p s.limits [] (joined s.batches ++ s.pending)
+draft_territories p s = after_edits p s.limits [] (joined s.batches ++ s.pending)
 
 -- how many edits there are, published and pending
 abbrev pub edits_in : ObjectState → ℕ

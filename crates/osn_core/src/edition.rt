@@ -3,7 +3,7 @@ ghost use Rattle.std.specs.Prelude.{◌≡◌, ◌≤◌, IfErr, IfOk, OnOk, Som
 ghost use Rattle.osn_days.specs.Rules.{newest_rules};
 ghost use Rattle.osn_core.specs.Sequential.{joined};
 ghost use Rattle.osn_register.specs.BorrowedQuery.{as_query};
-ghost use Rattle.osn_register.specs.Plain.{applied_all};
+ghost use Rattle.osn_register.specs.Plain.{after_edits};
 ghost use Rattle.osn_core.specs.Edition as spec;
 
 use crate::batch::Batch;
@@ -104,7 +104,7 @@ impl Edition {
 /// Applies the edits of batches, each in its turn.
 fn apply_batches(register: &mut Register, batches: &[Batch]) -> Result<(), AllocError>
     ensures { OnOk result (register.new ≡ record register.old {
-      territories = applied_all newest_rules register.old.limits register.old.territories
+      territories = after_edits newest_rules register.old.limits register.old.territories
           (joined batches.now);
     }) }
 {

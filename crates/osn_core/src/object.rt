@@ -5,7 +5,8 @@ ghost use Rattle.osn_register.specs.Refusal.{IsCheckOf, IsRefusalOrNoMemory};
 ghost use Rattle.osn_register.specs.BorrowedQuery.{as_query};
 ghost use Rattle.osn_register.specs.Answer.{refusal_in, takes_memory};
 ghost use Rattle.osn_register.specs.QueryRefusal.{query_refusal};
-ghost use Rattle.osn_core.specs.Sequential.{opened, with_pending, with_edition, stage_refusal};
+ghost use Rattle.osn_core.specs.Sequential.{empty_object, with_pending, with_edition};
+ghost use Rattle.osn_core.specs.Sequential.{stage_refusal};
 ghost use Rattle.osn_core.specs.Sequential.{publish_refusal, reply_at, territories_of, IsSound};
 ghost use Rattle.osn_core.specs.Sequential.{HasLawfulSource};
 
@@ -36,7 +37,7 @@ impl Model for Object {
 impl Object {
     /// Returns an object with no batch and nothing pending.
     pub fn new(alloc: Global, limits: Limits) -> Object
-        ensures { result ≡ opened limits }
+        ensures { result ≡ empty_object limits }
     {
         Object {
             copies: LiveAndStandby::new(alloc, limits),
@@ -83,7 +84,7 @@ impl Object {
         ensures memory { OnErr result (takes_memory
             (reply_at newest_rules self.now.limits self.now.batches query.now).answer ≡ true) }
     {
-        self.ask_borrowed(query.borrowed())
+        self.ask_borrowed(query.borrow())
     }
 
     /// Answers a query with borrowed texts as `ask` does.

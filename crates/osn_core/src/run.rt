@@ -3,7 +3,7 @@ ghost use Rattle.std.specs.Prelude.{◌≡◌, ℕ, [], ◌∷◌, ◌++◌, Non
 ghost use Rattle.osn_register.specs.Refusal.{IsRefusalOrNoMemory};
 ghost use Rattle.osn_register.specs.declared.refusal.Refusal.TheVariants.{NoMemory};
 ghost use Rattle.osn_days.specs.Rules.{newest_rules};
-ghost use Rattle.osn_core.specs.Sequential.{opened};
+ghost use Rattle.osn_core.specs.Sequential.{empty_object};
 ghost use Rattle.osn_core.specs.Machine.{first_core, out_of, core_after, outs_of, readers_refusal};
 ghost use Rattle.osn_core.specs.History.{history, outs_to, editor_outs, replies_to, Begin};
 ghost use Rattle.osn_core.specs.History.{editions_to, NeverFalls};
@@ -34,9 +34,10 @@ pub fn replay(
     ensures outs { IfOk result
         (λ outs. outs.items ≡ outs_of newest_rules (first_core limits readers) steps.now) }
     ensures editor { IfOk result (λ outs. editor_outs outs.items
-        ≡ editor_outs (outs_to newest_rules (opened limits) (history steps.now outs.items))) }
+        ≡ editor_outs (outs_to newest_rules (empty_object limits) (history steps.now outs.items))) }
     ensures readers { IfOk result (λ outs. (reader : ℕ) → Begin (replies_to reader outs.items)
-        (replies_to reader (outs_to newest_rules (opened limits) (history steps.now outs.items)))) }
+        (replies_to reader (outs_to newest_rules (empty_object limits)
+        (history steps.now outs.items)))) }
     ensures forward { IfOk result (λ outs.
         (reader : ℕ) → NeverFalls 0 (editions_to reader outs.items)) }
 {

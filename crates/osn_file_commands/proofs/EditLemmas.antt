@@ -6,10 +6,10 @@ use Rattle.std.proofs.lemmas.List.{drop_more, drop-take, take-take, take-append-
 use Rattle.osn_days.specs.Rules.{newest_rules}
 use Rattle.osn_register.specs.declared.edit.Edit.{Edit}
 use Rattle.osn_register.specs.declared.limits.Limits.{Limits}
-use Rattle.osn_register.specs.Plain.{EntryModel, refusal, effect, applied_all}
+use Rattle.osn_register.specs.Plain.{EntryModel, refusal, effect, after_edits}
 use Rattle.osn_register.specs.Lawful.{AreLawful}
 use Rattle.osn_core.specs.Sequential.{joined}
-use Rattle.osn_core.proofs.Lawful.{applied_all-append, applied-lawful, AreLawful-front}
+use Rattle.osn_core.proofs.Lawful.{after_edits-append, after_edit-lawful, AreLawful-front}
 use Rattle.osn_core.proofs.Lawful.{AreLawful-after}
 
 -- the rest of a list from an element on
@@ -29,20 +29,20 @@ next_lawful limits old es i e within is lawful =
 pub edit_more : (limits : Limits) (old new all : List EntryModel) (es : List Edit) (i : ℕ)
     (e : Edit) → i < length es → e ≡ get_or es i e → new ≡ effect old e
     → AreLawful newest_rules limits old (drop i es)
-    → applied_all newest_rules limits old (drop i es) ≡ all
-    → applied_all newest_rules limits new (drop (i + 1) es) ≡ all
+    → after_edits newest_rules limits old (drop i es) ≡ all
+    → after_edits newest_rules limits new (drop (i + 1) es) ≡ all
 edit_more limits old new all es i e within is one lawful so_far =
-    ap (λ ls. applied_all newest_rules limits ls (drop (i + 1) es))
-    (one ∙ sym (applied-lawful newest_rules limits old e
+    ap (λ ls. after_edits newest_rules limits ls (drop (i + 1) es))
+    (one ∙ sym (after_edit-lawful newest_rules limits old e
     (next_lawful limits old es i e within is lawful).0))
-    ∙ (sym (ap (applied_all newest_rules limits old) (left_from es i e within is)) ∙ so_far)
+    ∙ (sym (ap (after_edits newest_rules limits old) (left_from es i e within is)) ∙ so_far)
 
 -- of lawful batches the next one is lawful, and those after it are so after its edits
 pub next_batch_lawful : (limits : Limits) (old : List EntryModel) (bs : List (List Edit)) (i : ℕ)
     (b : List Edit) → i < length bs → b ≡ get_or bs i b
     → AreLawful newest_rules limits old (joined (drop i bs))
     → AreLawful newest_rules limits old b
-    × AreLawful newest_rules limits (applied_all newest_rules limits old b)
+    × AreLawful newest_rules limits (after_edits newest_rules limits old b)
     (joined (drop (i + 1) bs))
 next_batch_lawful limits old bs i b within is lawful =
     let rest = joined (drop (i + 1) bs) in
@@ -56,14 +56,14 @@ next_batch_lawful limits old bs i b within is lawful =
 -- one batch more is applied
 pub batch_more : (limits now : Limits) (old new all : List EntryModel) (bs : List (List Edit))
     (i : ℕ) (b : List Edit) → i < length bs → b ≡ get_or bs i b → now ≡ limits
-    → new ≡ applied_all newest_rules now old b
-    → applied_all newest_rules limits old (joined (drop i bs)) ≡ all
-    → applied_all newest_rules limits new (joined (drop (i + 1) bs)) ≡ all
+    → new ≡ after_edits newest_rules now old b
+    → after_edits newest_rules limits old (joined (drop i bs)) ≡ all
+    → after_edits newest_rules limits new (joined (drop (i + 1) bs)) ≡ all
 batch_more limits now old new all bs i b within is same one so_far =
-    ap (λ ls. applied_all newest_rules limits ls (joined (drop (i + 1) bs)))
-    (one ∙ ap (λ m. applied_all newest_rules m old b) same)
-    ∙ (sym (applied_all-append newest_rules limits old b (joined (drop (i + 1) bs)))
-    ∙ (sym (ap (λ cs. applied_all newest_rules limits old (joined cs)) (left_from bs i b within is))
+    ap (λ ls. after_edits newest_rules limits ls (joined (drop (i + 1) bs)))
+    (one ∙ ap (λ m. after_edits newest_rules m old b) same)
+    ∙ (sym (after_edits-append newest_rules limits old b (joined (drop (i + 1) bs)))
+    ∙ (sym (ap (λ cs. after_edits newest_rules limits old (joined cs)) (left_from bs i b within is))
     ∙ so_far))
 
 joined-append : (bs cs : List (List Edit)) → joined (bs ++ cs) ≡ joined bs ++ joined cs
@@ -84,22 +84,22 @@ parts bs from to order =
 -- a register of the first batches, to which those between are applied, is that of more batches
 pub territories_on : (limits : Limits) (bs : List (List Edit)) (from to : ℕ)
     (old new : List EntryModel) → from ≤ to
-    → old ≡ applied_all newest_rules limits [] (joined (take from bs))
-    → new ≡ applied_all newest_rules limits old (joined (slice_range bs from to))
-    → new ≡ applied_all newest_rules limits [] (joined (take to bs))
+    → old ≡ after_edits newest_rules limits [] (joined (take from bs))
+    → new ≡ after_edits newest_rules limits old (joined (slice_range bs from to))
+    → new ≡ after_edits newest_rules limits [] (joined (take to bs))
 territories_on limits bs from to old new order was one =
     one
-    ∙ (ap (λ ls. applied_all newest_rules limits ls (joined (slice_range bs from to))) was
-    ∙ (sym (applied_all-append newest_rules limits [] (joined (take from bs))
+    ∙ (ap (λ ls. after_edits newest_rules limits ls (joined (slice_range bs from to))) was
+    ∙ (sym (after_edits-append newest_rules limits [] (joined (take from bs))
     (joined (slice_range bs from to)))
-    ∙ ap (applied_all newest_rules limits [])
+    ∙ ap (after_edits newest_rules limits [])
     (sym (joined-append (take from bs) (slice_range bs from to))
     ∙ ap joined (parts bs from to order))))
 
 -- of lawful batches those between two are lawful after the first ones
 pub lawful_between : (limits : Limits) (bs : List (List Edit)) (from to : ℕ)
     (old : List EntryModel) → from ≤ to
-    → old ≡ applied_all newest_rules limits [] (joined (take from bs))
+    → old ≡ after_edits newest_rules limits [] (joined (take from bs))
     → AreLawful newest_rules limits [] (joined bs)
     → AreLawful newest_rules limits old (joined (slice_range bs from to))
 lawful_between limits bs from to old order was lawful =

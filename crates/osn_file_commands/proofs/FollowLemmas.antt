@@ -11,7 +11,7 @@ use Rattle.osn_register.specs.declared.edit.Edit.{Edit}
 use Rattle.osn_register.specs.declared.limits.Limits.{Limits}
 use Rattle.osn_register.specs.declared.answer.Answer.{Answer}
 use Rattle.osn_register.specs.declared.query.Query.{Query}
-use Rattle.osn_register.specs.Plain.{folded}
+use Rattle.osn_register.specs.Plain.{register_after}
 use Rattle.osn_core.specs.declared.step.Reply.{Reply}
 use Rattle.osn_register.specs.Lawful.{AreLawful}
 use Rattle.osn_core.specs.Sequential.{ObjectState, territories_of, joined, reply_at, IsSound}
@@ -26,7 +26,7 @@ use Rattle.osn_file_commands.specs.InsideFollowers.{IsPlace}
 
 -- the empty register is at edition 0
 pub IsAt-first : (limits given : Limits) (batches : List (List Edit)) (f : RegisterCursor)
-    → given ≡ limits → f.edition ≡ 0 → f.register ≡ folded newest_rules given [] →
+    → given ≡ limits → f.edition ≡ 0 → f.register ≡ register_after newest_rules given [] →
     IsAt limits batches f
 IsAt-first limits given batches f same edition register = record {
   there = omega (arith, edition);
@@ -48,7 +48,7 @@ batches_lawful s own given sound same are =
 -- a place where no reply was given
 pub IsPlace-first : (limits given : Limits) (batches : List (List Edit)) (p : Place)
     → given ≡ limits → p.last ≡ 0 → p.own.edition ≡ 0
-    → p.own.register ≡ folded newest_rules given [] → IsPlace limits batches p
+    → p.own.register ≡ register_after newest_rules given [] → IsPlace limits batches p
 IsPlace-first limits given batches p same last edition register = record {
   there = omega (arith, last);
   at = IsAt-first limits given batches p.own same edition register;

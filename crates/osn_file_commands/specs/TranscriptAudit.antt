@@ -71,8 +71,8 @@ line_due s e = reply_line
 abbrev pub has_line : Data → List ℕ → Bool
 has_line reply line = not (has_float reply) && bytes_eq (line_of reply) line
 
-abbrev pub agreed : Data → List ℕ → Result Data WireFault
-agreed reply line = if has_line reply line then Ok reply else Err WrongReply
+abbrev pub reply_if_equal : Data → List ℕ → Result Data WireFault
+reply_if_equal reply line = if has_line reply line then Ok reply else Err WrongReply
 
 -- the edition of a reader's last reply. Readers are counted from 1
 abbrev pub last_of : List ℕ → ℕ → ℕ
@@ -80,8 +80,8 @@ last_of last reader = slice_index last (reader - 1)
 
 -- an entry that may be compared with the object: its reader may be given its edition, and its reply
 -- has no number that is read as a float
-abbrev pub checked : ObjectState → List ℕ → TranscriptLine → Result TranscriptLine WireFault
-checked s last e =
+abbrev pub entry_if_valid : ObjectState → List ℕ → TranscriptLine → Result TranscriptLine WireFault
+entry_if_valid s last e =
     known_edition (length s.batches) (last_of last e.reader) e.edition
     >>= λ edition. if has_float e.reply then Err WrongReply else Ok e
 
@@ -89,7 +89,7 @@ checked s last e =
 abbrev pub after_entry : ObjectState → List ℕ → TranscriptLine → Result (List ℕ) WireFault
 after_entry s last e =
     known_edition (length s.batches) (last_of last e.reader) e.edition
-    >>= λ edition. agreed e.reply (line_due s e)
+    >>= λ edition. reply_if_equal e.reply (line_due s e)
     >>= λ reply. Ok (slice_set last (e.reader - 1) e.edition)
 
 -- the editions of the readers' last replies with that of a line's object, or the fault of the line

@@ -2,7 +2,7 @@
 ghost use Rattle.std.specs.Prelude.{◌≡◌, ◌≤◌, [], IfOk, OnOk, length, take};
 ghost use Rattle.osn_days.specs.Rules.{newest_rules};
 ghost use Rattle.osn_register.specs.BorrowedQuery.{as_query};
-ghost use Rattle.osn_register.specs.Plain.{applied_all, folded};
+ghost use Rattle.osn_register.specs.Plain.{after_edits, register_after};
 ghost use Rattle.osn_register.specs.Lawful.{AreLawful};
 ghost use Rattle.osn_core.specs.Sequential.{joined, reply_at};
 ghost use Rattle.osn_file_commands.specs.InsideFollower.{IsAt};
@@ -16,7 +16,7 @@ use std::mem;
 fn admit_edits(register: &mut Register, edits: &[Edit]) -> Result<(), AllocError>
     requires { AreLawful newest_rules register.old.limits register.old.territories edits.now }
     ensures { OnOk result (register.new ≡ record register.old {
-      territories = applied_all newest_rules register.old.limits register.old.territories edits.now;
+      territories = after_edits newest_rules register.old.limits register.old.territories edits.now;
     }) }
 {
     for edit in edits {
@@ -30,7 +30,7 @@ fn admit_batches(register: &mut Register, batches: &[Batch]) -> Result<(), Alloc
     requires { AreLawful newest_rules register.old.limits register.old.territories
         (joined batches.now) }
     ensures { OnOk result (register.new ≡ record register.old {
-      territories = applied_all newest_rules register.old.limits register.old.territories
+      territories = after_edits newest_rules register.old.limits register.old.territories
           (joined batches.now);
     }) }
 {
@@ -51,7 +51,7 @@ impl RegisterCursor {
     /// Returns a follower at edition 0, which is empty.
     pub(crate) fn new(alloc: Global, limits: Limits) -> RegisterCursor
         ensures edition { result.edition ≡ 0 }
-        ensures register { result.register ≡ folded newest_rules limits [] }
+        ensures register { result.register ≡ register_after newest_rules limits [] }
     {
         RegisterCursor {
             edition: 0,

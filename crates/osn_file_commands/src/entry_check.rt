@@ -52,7 +52,7 @@ fn reply_due(
         LineQuery::Plain(query) => followers.ask(entry.reader, entry.edition, query),
         LineQuery::Written { .. } => {
             let query = entry.query.to_query(alloc)?;
-            followers.ask(entry.reader, entry.edition, query.borrowed())
+            followers.ask(entry.reader, entry.edition, query.borrow())
         }
     }
 }
@@ -114,7 +114,8 @@ fn check_entry(followers: &Followers, entry: &TranscriptLine) -> Result<(), Wire
     requires known { entry.now.reader ≤ MOST_READERS }
     ensures fault { IfErr result (λ f. spec.after_entry followers.now.object
         followers.now.last (entry_model entry.now) ≡ Err f) }
-    ensures checked { OnOk result (is_ok (spec.checked followers.now.object followers.now.last
+    ensures checked { OnOk result (is_ok
+        (spec.entry_if_valid followers.now.object followers.now.last
         (entry_model entry.now)) ≡ true) }
     ensures edition { OnOk result (spec.known_edition (length followers.now.object.batches)
         (spec.last_of followers.now.last entry.now.reader) entry.now.edition
@@ -144,7 +145,8 @@ pub(crate) fn take_entry(
         (entry_model entry.now) ≡ Ok followers.new.last) }
     ensures err { IfErr result (λ e. Fails e (spec.after_entry followers.old.object
         followers.old.last (entry_model entry.now))) }
-    ensures memory { IfErr result (λ e. e ≡ NoMemory → is_ok (spec.checked followers.old.object
+    ensures memory { IfErr result (λ e.
+        e ≡ NoMemory → is_ok (spec.entry_if_valid followers.old.object
         followers.old.last (entry_model entry.now)) ≡ true) }
     ensures object { OnOk result (followers.new.object ≡ followers.old.object) }
 {

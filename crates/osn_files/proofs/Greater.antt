@@ -10,11 +10,11 @@ use Rattle.osn_register.specs.declared.refusal.Refusal.{Refusal}
 use Rattle.osn_register.specs.declared.refusal.Refusal.TheVariants.{NothingPending, JournalFull}
 use Rattle.osn_register.specs.declared.refusal.Refusal.TheVariants.{EditionsFull}
 use Rattle.osn_register.specs.Lawful.{AreLawful}
-use Rattle.osn_register.specs.Plain.{EntryModel, refusal, applied_all}
+use Rattle.osn_register.specs.Plain.{EntryModel, refusal, after_edits}
 use Rattle.osn_register.specs.Refusal.{or_else}
 use Rattle.osn_core.specs.declared.command.Command.{Command}
 use Rattle.osn_core.specs.declared.command.Command.TheVariants.{Stage, Publish}
-use Rattle.osn_core.specs.Sequential.{ObjectState, opened, joined, edits_in}
+use Rattle.osn_core.specs.Sequential.{ObjectState, empty_object, joined, edits_in}
 use Rattle.osn_core.specs.Sequential.{stage_refusal, publish_refusal, with_pending, with_edition}
 use Rattle.osn_core.proofs.Batches.{joined-push}
 use Rattle.osn_core.proofs.Lawful.{AreLawful-push, AreLawful-front}
@@ -82,7 +82,7 @@ module _ (p : Rules) {limits greater : Limits} (more : AreGreater limits greater
   not_refused (Some f) q new made passes lawful h = absurd (cc)
 
   abbrev draft : Limits → ObjectState → List EntryModel
-  draft l s = applied_all p l [] (edits_of s)
+  draft l s = after_edits p l [] (edits_of s)
 
   stage_passes : (s : ObjectState) (e : Edit) → IsLawful s
       → stage_refusal p (smaller s) e ≡ None → stage_refusal p (larger s) e ≡ None
@@ -183,10 +183,11 @@ module _ (p : Rules) {limits greater : Limits} (more : AreGreater limits greater
 
   -- the object that is loaded after a head
   after_head : (r : Result Version LineFault) (made : ObjectState) (rest : List (List ℕ))
-      → go_on 1 r (λ v. in_turn (after_object p) 2 (Some v) (opened limits) rest) ≡ Ok made
-      → IsSameUnderBoth (go_on 1 r (λ v. in_turn (after_object p) 2 (Some v) (opened limits) rest))
-      (go_on 1 r (λ v. in_turn (after_object p) 2 (Some v) (opened greater) rest))
-  after_head (Ok version) made rest h = lines_under version 2 (opened limits) made rest tt h
+      → go_on 1 r (λ v. in_turn (after_object p) 2 (Some v) (empty_object limits) rest) ≡ Ok made
+      → IsSameUnderBoth (go_on 1 r (λ v. in_turn (after_object p) 2 (Some v)
+      (empty_object limits) rest))
+      (go_on 1 r (λ v. in_turn (after_object p) 2 (Some v) (empty_object greater) rest))
+  after_head (Ok version) made rest h = lines_under version 2 (empty_object limits) made rest tt h
   after_head (Err f) made rest h = absurd (cc)
 
   load_under : (ls : List (List ℕ)) (made : ObjectState) → load p limits ls ≡ Ok made

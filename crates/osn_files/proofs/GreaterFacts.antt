@@ -18,9 +18,9 @@ use Rattle.osn_register.specs.declared.refusal.Refusal.{Refusal}
 use Rattle.osn_register.specs.Code.{is_code, is_name}
 use Rattle.osn_register.specs.Lawful.{AreLawful}
 use Rattle.osn_register.specs.Plain as plain
-use Rattle.osn_register.specs.Plain.{EntryModel, refusal, effect, applied_all}
+use Rattle.osn_register.specs.Plain.{EntryModel, refusal, effect, after_edits}
 use Rattle.osn_register.specs.Refusal.{or_else}
-use Rattle.osn_core.proofs.Lawful.{applied-lawful}
+use Rattle.osn_core.proofs.Lawful.{after_edit-lawful}
 use Rattle.osn_files.specs.GreaterLimits.{AreGreater}
 use Rattle.osn_files.proofs.CommandFacts.{next_test, both_none}
 
@@ -123,10 +123,10 @@ module _ (p : Rules) {limits greater : Limits} (more : AreGreater limits greater
   -- edits that are lawful in turn make the same territories
   pub territories_under : (territories : List EntryModel) (es : List Edit) →
       AreLawful p limits territories es
-      → applied_all p limits territories es ≡ applied_all p greater territories es
+      → after_edits p limits territories es ≡ after_edits p greater territories es
   territories_under territories [] h = refl
   territories_under territories (e ∷ es) h =
-      ap (λ ls. applied_all p limits ls es) (applied-lawful p limits territories e h.0)
+      ap (λ ls. after_edits p limits ls es) (after_edit-lawful p limits territories e h.0)
       ∙ (territories_under (effect territories e) es h.1
-      ∙ sym (ap (λ ls. applied_all p greater ls es)
-      (applied-lawful p greater territories e (refusal_under territories e h.0))))
+      ∙ sym (ap (λ ls. after_edits p greater ls es)
+      (after_edit-lawful p greater territories e (refusal_under territories e h.0))))

@@ -17,12 +17,12 @@ use Rattle.osn_register.specs.declared.limits.Limits.{Limits}
 use Rattle.osn_register.specs.declared.refusal.Refusal.TheVariants.{NothingPending, JournalFull}
 use Rattle.osn_register.specs.declared.refusal.Refusal.TheVariants.{EditionsFull}
 use Rattle.osn_register.specs.Lawful.{AreLawful}
-use Rattle.osn_register.specs.Plain.{EntryModel, refusal, effect, applied, applied_all}
+use Rattle.osn_register.specs.Plain.{EntryModel, refusal, effect, after_edit, after_edits}
 use Rattle.osn_register.specs.Plain.{unless_refused}
 use Rattle.osn_register.specs.Refusal.{or_else}
 use Rattle.osn_core.specs.declared.command.Command.{Command}
 use Rattle.osn_core.specs.declared.command.Command.TheVariants.{Stage, Publish}
-use Rattle.osn_core.specs.Sequential.{ObjectState, HasLawfulSource, opened, joined, edits_in}
+use Rattle.osn_core.specs.Sequential.{ObjectState, HasLawfulSource, empty_object, joined, edits_in}
 use Rattle.osn_core.specs.Sequential.{NoneEmpty, IsSound, stage_refusal, publish_refusal}
 use Rattle.osn_core.specs.Sequential.{draft_territories}
 use Rattle.osn_core.proofs.Batches.{joined-push}
@@ -50,19 +50,19 @@ abbrev pub at : Limits → List (List Edit) → List Edit → ObjectState
 at limits done pend = record { limits = limits; batches = done; pending = pend }
 
 abbrev territories_at : Limits → List Edit → List EntryModel
-territories_at limits es = applied_all newest_rules limits [] es
+territories_at limits es = after_edits newest_rules limits [] es
 
-applied_all-append : (limits : Limits) (territories : List EntryModel) (es fs : List Edit)
-    → applied_all newest_rules limits territories (es ++ fs)
-    ≡ applied_all newest_rules limits (applied_all newest_rules limits territories es) fs
-applied_all-append limits territories [] fs = refl
-applied_all-append limits territories (e ∷ es) fs =
-    applied_all-append limits (applied newest_rules limits territories e) es fs
+after_edits-append : (limits : Limits) (territories : List EntryModel) (es fs : List Edit)
+    → after_edits newest_rules limits territories (es ++ fs)
+    ≡ after_edits newest_rules limits (after_edits newest_rules limits territories es) fs
+after_edits-append limits territories [] fs = refl
+after_edits-append limits territories (e ∷ es) fs =
+    after_edits-append limits (after_edit newest_rules limits territories e) es fs
 
-applied-lawful : (limits : Limits) (territories : List EntryModel) (e : Edit)
+after_edit-lawful : (limits : Limits) (territories : List EntryModel) (e : Edit)
     → refusal newest_rules limits territories e ≡ None
-    → applied newest_rules limits territories e ≡ effect territories e
-applied-lawful limits territories e none =
+    → after_edit newest_rules limits territories e ≡ effect territories e
+after_edit-lawful limits territories e none =
     ap (λ r. unless_refused r (effect territories e) territories) none
 
 -- the first of edits that are lawful in turn are so
@@ -76,12 +76,12 @@ lawful_front p limits territories (e ∷ es) fs h =
 -- applied
 pub lawful_rest : (limits : Limits) (territories : List EntryModel) (es fs : List Edit)
     → AreLawful newest_rules limits territories (es ++ fs)
-    → AreLawful newest_rules limits (applied_all newest_rules limits territories es) fs
+    → AreLawful newest_rules limits (after_edits newest_rules limits territories es) fs
 lawful_rest limits territories [] fs h = h
 lawful_rest limits territories (e ∷ es) fs h =
-    lawful_rest limits (applied newest_rules limits territories e) es fs
+    lawful_rest limits (after_edit newest_rules limits territories e) es fs
     (subst (λ ls. AreLawful newest_rules limits ls (es ++ fs))
-    (sym (applied-lawful limits territories e h.0)) h.1)
+    (sym (after_edit-lawful limits territories e h.0)) h.1)
 
 -- what holds of each of some edits holds of the first ones, and of those after them
 pub each_first : (P : Edit → Type 0) (es fs : List Edit) → All P (es ++ fs) → All P es
@@ -141,8 +141,8 @@ module _ (version : Version) where
       let grown : territories_at limits (joined done ++ (pend ++ e ∷ []))
       ≡ effect (territories_at limits (joined done ++ pend)) e =
       ap (territories_at limits) (sym (append_assoc (joined done) pend (e ∷ [])))
-      ∙ (applied_all-append limits [] (joined done ++ pend) (e ∷ [])
-      ∙ applied-lawful limits (territories_at limits (joined done ++ pend)) e lawful.0) in
+      ∙ (after_edits-append limits [] (joined done ++ pend) (e ∷ [])
+      ∙ after_edit-lawful limits (territories_at limits (joined done ++ pend)) e lawful.0) in
       let passes = stage_passes s e lawful.0 (omega (arith, room)) in
       ap (λ text. run version n s (lines text))
       (append_assoc (line_text (edit_data e)) (edits_text es) more)
@@ -188,9 +188,9 @@ module _ (version : Version) where
       (lawful_front newest_rules limits (territories_at limits (joined done)) b (joined bs ++ pend)
       all) in
       let grown : territories_at limits (joined (done ++ b ∷ []))
-      ≡ applied_all newest_rules limits (territories_at limits (joined done)) b =
+      ≡ after_edits newest_rules limits (territories_at limits (joined done)) b =
       ap (territories_at limits) (joined-push done b)
-      ∙ applied_all-append limits [] (joined done) b in
+      ∙ after_edits-append limits [] (joined done) b in
       let others : AreLawful newest_rules limits (territories_at limits (joined (done ++ b ∷ [])))
       (joined bs ++ pend) =
       subst (λ ls. AreLawful newest_rules limits ls (joined bs ++ pend)) (sym grown)
@@ -222,7 +222,7 @@ module _ (version : Version) where
       λ k d within. (has k d within, h.sources k d within) in
       ap (load newest_rules s.limits) ((IsLine-head version).first rest)
       ∙ (ap (λ r. go_on 1 (on_read r Ok)
-      (λ v. in_turn (after_object newest_rules) 2 (Some v) (opened s.limits) (lines rest)))
+      (λ v. in_turn (after_object newest_rules) 2 (Some v) (empty_object s.limits) (lines rest)))
       (version_of-head version)
       ∙ run_batches s.limits [] s.batches s.pending (edits_text s.pending) s own h.lawful
       h.none_empty

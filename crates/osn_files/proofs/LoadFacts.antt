@@ -8,7 +8,8 @@ use Rattle.osn_days.specs.Rules.{newest_rules}
 use Rattle.osn_register.specs.declared.edit.Edit.{Edit}
 use Rattle.osn_register.specs.declared.limits.Limits.{Limits}
 use Rattle.osn_register.specs.Plain.{refusal}
-use Rattle.osn_core.specs.Sequential.{ObjectState, IsSound, opened, with_pending, with_edition}
+use Rattle.osn_core.specs.Sequential.{ObjectState, IsSound, empty_object, with_pending}
+use Rattle.osn_core.specs.Sequential.{with_edition}
 use Rattle.osn_core.specs.Sequential.{draft_territories}
 use Rattle.osn_lines.specs.Lines.{lines, EndsWithFeed}
 use Rattle.osn_lines.proofs.FeedLemmas.{lines-append}
@@ -102,7 +103,7 @@ IsJournalOf-line version limits s t text d line makes h =
       ends = ends_line text d;
       loads =
           ap (load newest_rules limits) cut
-          ∙ file_more (after_object newest_rules) 1 version (opened limits) s t (lines text)
+          ∙ file_more (after_object newest_rules) 1 version (empty_object limits) s t (lines text)
           (compact_text d) h.head h.loads
           (ap (λ r. on_read r (after_object newest_rules version s)) line.object ∙ makes);
     }

@@ -19,9 +19,9 @@ use Rattle.osn_register.specs.declared.refusal.Refusal.{Refusal}
 use Rattle.osn_register.specs.Code.{is_code, is_name}
 use Rattle.osn_register.specs.Lawful.{AreLawful}
 use Rattle.osn_register.specs.Plain as plain
-use Rattle.osn_register.specs.Plain.{EntryModel, refusal, effect, applied_all}
+use Rattle.osn_register.specs.Plain.{EntryModel, refusal, effect, after_edits}
 use Rattle.osn_register.specs.Refusal.{or_else}
-use Rattle.osn_core.proofs.Lawful.{applied-lawful}
+use Rattle.osn_core.proofs.Lawful.{after_edit-lawful}
 use Rattle.osn_files.proofs.CommandFacts.{next_test, un_not, both_none}
 use Rattle.osn_files.proofs.OldFacts.{IsFixed, HasFixed, HaveFixed}
 
@@ -149,17 +149,17 @@ lawful_passes p q limits territories (e ∷ es) longer fixed h = (
 -- edits that are lawful under both do the same under both
 applied-both : (p q : Rules) (limits : Limits) (territories : List EntryModel) (es : List Edit)
     → AreLawful p limits territories es → AreLawful q limits territories es
-    → applied_all p limits territories es ≡ applied_all q limits territories es
+    → after_edits p limits territories es ≡ after_edits q limits territories es
 applied-both p q limits territories [] h k = refl
 applied-both p q limits territories (e ∷ es) h k =
-    ap (λ ls. applied_all p limits ls es) (applied-lawful p limits territories e h.0)
+    ap (λ ls. after_edits p limits ls es) (after_edit-lawful p limits territories e h.0)
     ∙ (applied-both p q limits (effect territories e) es h.1 k.1
-    ∙ sym (ap (λ ls. applied_all q limits ls es) (applied-lawful q limits territories e k.0)))
+    ∙ sym (ap (λ ls. after_edits q limits ls es) (after_edit-lawful q limits territories e k.0)))
 
 -- edits that are lawful under the rules of the shorter line are applied alike under both rules
 pub applied_passes : (p q : Rules) (limits : Limits) (territories : List EntryModel)
     (es : List Edit) → IsLonger p q → HaveFixed es → AreLawful p limits territories es
-    → applied_all p limits territories es ≡ applied_all q limits territories es
+    → after_edits p limits territories es ≡ after_edits q limits territories es
 applied_passes p q limits territories es longer fixed h =
     applied-both p q limits territories es h
     (lawful_passes p q limits territories es longer fixed h)

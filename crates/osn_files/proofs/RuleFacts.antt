@@ -10,11 +10,12 @@ use Rattle.osn_register.specs.declared.limits.Limits.{Limits}
 use Rattle.osn_register.specs.declared.refusal.Refusal.{Refusal}
 use Rattle.osn_register.specs.declared.refusal.Refusal.TheVariants.{JournalFull}
 use Rattle.osn_register.specs.Lawful.{AreLawful}
-use Rattle.osn_register.specs.Plain.{RegisterModel, refusal, applied_all}
+use Rattle.osn_register.specs.Plain.{RegisterModel, refusal, after_edits}
 use Rattle.osn_register.specs.Refusal.{or_else}
 use Rattle.osn_core.specs.declared.command.Command.{Command}
 use Rattle.osn_core.specs.declared.command.Command.TheVariants.{Stage, Publish}
-use Rattle.osn_core.specs.Sequential.{ObjectState, opened, joined, draft_territories, edits_in}
+use Rattle.osn_core.specs.Sequential.{ObjectState, empty_object, joined, draft_territories}
+use Rattle.osn_core.specs.Sequential.{edits_in}
 use Rattle.osn_core.specs.Sequential.{stage_refusal, publish_refusal, with_pending, with_edition}
 use Rattle.osn_core.proofs.Batches.{joined-push}
 use Rattle.osn_core.proofs.Lawful.{AreLawful-push}
@@ -104,7 +105,7 @@ IsOld-pending limits s e old fixed none =
     append_assoc (joined s.batches) s.pending (e ∷ []) in
     let lawful =
     AreLawful-push first_rules limits [] (all_edits s) e old.lawful
-    (subst (λ l. refusal first_rules limits (applied_all first_rules l [] (all_edits s)) e ≡ None)
+    (subst (λ l. refusal first_rules limits (after_edits first_rules l [] (all_edits s)) e ≡ None)
     old.limits_are none) in
     record {
       limits_are = old.limits_are;
@@ -135,8 +136,8 @@ stage_goes limits s made e old fixed is =
     subst (λ l. refusal first_rules l (draft_territories first_rules s) e ≡ None) old.limits_are
     parts.0 in
     let drafts : draft_territories first_rules s ≡ draft_territories newest_rules s =
-    subst (λ l. applied_all first_rules l [] (all_edits s)
-    ≡ applied_all newest_rules l [] (all_edits s)) (sym old.limits_are)
+    subst (λ l. after_edits first_rules l [] (all_edits s)
+    ≡ after_edits newest_rules l [] (all_edits s)) (sym old.limits_are)
     (applied_passes first_rules newest_rules limits [] (all_edits s) newest_longer old.fixed
     old.lawful) in
     let newest : refusal newest_rules s.limits (draft_territories newest_rules s) e ≡ None =
@@ -219,18 +220,18 @@ lines_end limits n s made (l ∷ ls) old is =
 abbrev after_head : Rules → Limits → List (List ℕ) → Result Version WireFault
     → Result ObjectState (ℕ × LineFault)
 after_head p limits rest r =
-    go_on 1 (on_read r Ok) (λ v. in_turn (after_object p) 2 (Some v) (opened limits) rest)
+    go_on 1 (on_read r Ok) (λ v. in_turn (after_object p) 2 (Some v) (empty_object limits) rest)
 
 -- a journal of the first version keeps its editions
 pub keeps_editions : (limits : Limits) (ls : List (List ℕ)) → KeepsEditions limits ls
 unfolding KeepsEditions
 keeps_editions limits [] = λ first object is. absurd first
 keeps_editions limits (head ∷ rest) = λ first object is.
-    let loaded : after_first_head first_rules 2 (opened limits) rest ≡ Ok object =
+    let loaded : after_first_head first_rules 2 (empty_object limits) rest ≡ Ok object =
     sym (ap (after_head first_rules limits rest) first) ∙ is in
-    let none : IsOld limits (opened limits) =
+    let none : IsOld limits (empty_object limits) =
     record { limits_are = refl; lawful = tt; fixed = tt } in
-    let end = lines_end limits 2 (opened limits) object rest none loaded in (
+    let end = lines_end limits 2 (empty_object limits) object rest none loaded in (
       ap (after_head newest_rules limits rest) first ∙ end.ends,
       same_edition limits object end.old,
       same_all limits object end.old,

@@ -7,7 +7,7 @@ use Rattle.osn_days.specs.Rules.{newest_rules}
 use Rattle.osn_register.specs.declared.edit.Edit.{Edit}
 use Rattle.osn_register.specs.declared.limits.Limits.{Limits}
 use Rattle.osn_register.specs.Lawful.{AreLawful}
-use Rattle.osn_register.specs.Plain.{EntryModel, effect, applied_all}
+use Rattle.osn_register.specs.Plain.{EntryModel, effect, after_edits}
 use Rattle.osn_core.specs.Sequential.{ObjectState, HasLawfulSource, joined, IsSound}
 use Rattle.osn_request.specs.declared.version.Version.{Version}
 use Rattle.osn_request.specs.Version.{newest_version}
@@ -40,7 +40,7 @@ utf8_batches limits territories (b ∷ bs) pend given h =
     (utf8_edits limits territories b (each_first HasLawfulSource b (joined bs ++ pend) each)
     (lawful_front newest_rules limits territories b (joined bs ++ pend) all))
     (Says-publish newest_version).line.utf8)
-    (utf8_batches limits (applied_all newest_rules limits territories b) bs pend
+    (utf8_batches limits (after_edits newest_rules limits territories b) bs pend
     (each_after HasLawfulSource b (joined bs ++ pend) each)
     (lawful_rest limits territories b (joined bs ++ pend) all))
 
@@ -50,6 +50,6 @@ IsUtf8-journal_text_of version s h =
     IsUtf8-append _ (batches_text s.batches ++ edits_text s.pending) (IsLine-head version).utf8
     (IsUtf8-append (batches_text s.batches) (edits_text s.pending)
     (utf8_batches s.limits [] s.batches s.pending h.sources h.lawful)
-    (utf8_edits s.limits (applied_all newest_rules s.limits [] (joined s.batches)) s.pending
+    (utf8_edits s.limits (after_edits newest_rules s.limits [] (joined s.batches)) s.pending
     (each_after HasLawfulSource (joined s.batches) s.pending h.sources)
     (lawful_rest s.limits [] (joined s.batches) s.pending h.lawful)))

@@ -4,7 +4,7 @@ use Rattle.std.specs.Prelude.{◌≡◌, ℕ, List, [], ◌∷◌, ◌++◌, tak
 use Rattle.osn_days.specs.Rules.{first_rules, newest_rules}
 use Rattle.osn_register.specs.declared.edit.Edit.{Edit}
 use Rattle.osn_register.specs.declared.limits.Limits.{Limits}
-use Rattle.osn_register.specs.Plain.{folded}
+use Rattle.osn_register.specs.Plain.{register_after}
 use Rattle.osn_core.specs.Sequential.{ObjectState, joined}
 use Rattle.osn_request.specs.declared.version.Version.TheVariants.{First}
 use Rattle.osn_files.specs.Journal.{load}
@@ -17,7 +17,8 @@ IsOfFirstVersion (head ∷ rest) = version_of head ≡ Ok First
 
 -- edits in turn make the same register under the newest rules as under the first
 abbrev pub IsSameRegister : Limits → List Edit → Type 0
-IsSameRegister limits es = folded first_rules limits es ≡ folded newest_rules limits es
+IsSameRegister limits es =
+    register_after first_rules limits es ≡ register_after newest_rules limits es
 
 -- Lines that say the first version, and that the first rules load as an object, are loaded as the
 -- same object by the newest rules. Its batches and its pending edits are the same ones. The

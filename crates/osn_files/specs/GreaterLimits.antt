@@ -4,7 +4,7 @@ use Rattle.std.specs.Prelude.{◌≡◌, ◌≤◌, ℕ, List, [], ◌++◌, tak
 use Rattle.osn_days.specs.Rules.{newest_rules}
 use Rattle.osn_register.specs.declared.edit.Edit.{Edit}
 use Rattle.osn_register.specs.declared.limits.Limits.{Limits}
-use Rattle.osn_register.specs.Plain.{applied_all}
+use Rattle.osn_register.specs.Plain.{after_edits}
 use Rattle.osn_core.specs.Sequential.{ObjectState, joined}
 use Rattle.osn_files.specs.Journal.{load}
 
@@ -23,7 +23,7 @@ with_limits s limits = record s { limits = limits }
 -- edits in turn make the same territories under both limits
 abbrev pub MakeSameTerritories : Limits → Limits → List Edit → Type 0
 MakeSameTerritories limits greater es =
-    applied_all newest_rules limits [] es ≡ applied_all newest_rules greater [] es
+    after_edits newest_rules limits [] es ≡ after_edits newest_rules greater [] es
 
 -- Lines that are loaded as an object under limits are loaded under greater ones as the same object
 -- except its limits. Its batches and its pending edits are the same. Each of its editions, which is

@@ -7,7 +7,7 @@ use Rattle.osn_register.specs.declared.limits.Limits.{Limits}
 use Rattle.osn_register.specs.declared.refusal.Refusal.{Refusal}
 use Rattle.osn_core.specs.declared.command.Command.{Command}
 use Rattle.osn_core.specs.declared.command.Command.TheVariants.{Stage, Publish}
-use Rattle.osn_core.specs.Sequential.{ObjectState, opened, with_pending, with_edition}
+use Rattle.osn_core.specs.Sequential.{ObjectState, empty_object, with_pending, with_edition}
 use Rattle.osn_core.specs.Sequential.{stage_refusal, publish_refusal}
 use Rattle.osn_request.specs.declared.version.Version.{Version}
 use Rattle.osn_files.specs.declared.fault.LineFault.{LineFault}
@@ -31,4 +31,4 @@ after_object p version s d = on_read (command_in version d) (after_command p s)
 
 -- the object of a journal's lines, or the first fault and the number of its line, counted from 1
 abbrev pub load : Rules → Limits → List (List ℕ) → Result ObjectState (ℕ × LineFault)
-load p limits = in_turn (after_object p) 1 None (opened limits)
+load p limits = in_turn (after_object p) 1 None (empty_object limits)

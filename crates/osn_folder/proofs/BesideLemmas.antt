@@ -1,13 +1,13 @@
 -- A text was saved in the place of a file that is left beside it, by what each step did.
 use Rattle.std.proofs.Common.{◌≡◌, ◌≢◌, ◌∙◌, ℕ, List, Option, Some, None, false, sym, subst, inr}
-use Rattle.osn_folder.specs.Folder.{Known, Paths, Changes, CannotSaveAt, IsPlaceOf, SavesAt}
+use Rattle.osn_folder.specs.Folder.{FolderModel, Paths, Changes, CannotSaveAt, IsPlaceOf, SavesAt}
 use Rattle.osn_folder.specs.Crash.{BacksUpSafely, CannotSaveBeside, CannotSaveBesideAt, GivesUp}
 use Rattle.osn_folder.specs.Crash.{IsSafelyLeftAt, IsSafelySavedAt, OthersOfFileStaySure}
 use Rattle.osn_folder.specs.Crash.{SavesBeside, SavesBesideAt, StaysSure}
 use Rattle.osn_folder.specs.declared.fault.SaveFault.{SaveFault}
 
 -- the old file stays at the other path
-stays_sure : (place backup : List ℕ) (k m n : Known) → BacksUpSafely place backup k m
+stays_sure : (place backup : List ℕ) (k m n : FolderModel) → BacksUpSafely place backup k m
     → OthersOfFileStaySure place m n → k.paths.is_stream place ≡ false → k.at place ≢ None
     → StaysSure backup m n
 stays_sure place backup k m n backs others file there =
@@ -15,7 +15,7 @@ stays_sure place backup k m n backs others file there =
     backs.0.0 (λ none. there (sym backs.0.2.1 ∙ none))
 
 -- the text was saved
-pub saved_beside : (path place one two backup text : List ℕ) (k p m n : Option Known)
+pub saved_beside : (path place one two backup text : List ℕ) (k p m n : Option FolderModel)
     → one ≡ place → two ≡ place → Changes (IsPlaceOf path place) k p
     → Changes (BacksUpSafely one backup) p m → Changes (SavesAt two None text) m n
     → Changes (IsSafelySavedAt two text) m n → Changes (OthersOfFileStaySure two) m n
@@ -43,7 +43,7 @@ saved_beside path place one two backup text (Some k) (Some p) (Some m) (Some n) 
 
 -- the text was not saved, by this fault
 pub left_beside : (path place one two backup given text : List ℕ) (fault : SaveFault)
-    (k p m a n : Option Known)
+    (k p m a n : Option FolderModel)
     → one ≡ place → two ≡ place → given ≡ backup → Changes (IsPlaceOf path place) k p
     → Changes (BacksUpSafely one backup) p m → Changes (CannotSaveAt two None text fault) m a
     → Changes (IsSafelyLeftAt two text fault) m a → Changes (OthersOfFileStaySure two) m a

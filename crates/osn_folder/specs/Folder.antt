@@ -25,7 +25,7 @@ pub record Paths : Type 0 where
 -- what is known of a folder: what the file of a path contains, if there is one, and which paths
 -- were opened to be read, in order. Also its paths, and whether the system has ever failed to keep,
 -- lock or change a file
-pub record Known : Type 0 where
+pub record FolderModel : Type 0 where
   pub at : List ℕ → Option (List ℕ)
   pub opened : List (List ℕ)
   pub paths : Paths
@@ -38,44 +38,45 @@ pub record Known : Type 0 where
   pub might_have_left : List ℕ → List (Option (List ℕ))
 
 -- a change of a folder, if that is known
-abbrev pub Changes : (Known → Known → Type 0) → Option Known → Option Known → Type 0
+abbrev pub Changes : (FolderModel → FolderModel → Type 0) → Option FolderModel
+    → Option FolderModel → Type 0
 Changes Change None new = ⊤
 Changes Change (Some k) None = ⊥
 Changes Change (Some k) (Some n) = Change k n
 
 -- nothing was changed
-abbrev pub Stays : Known → Known → Type 0
+abbrev pub Stays : FolderModel → FolderModel → Type 0
 Stays k n = n ≡ k
 
 -- nothing was changed, except what a crash may leave
-abbrev pub Syncs : Known → Known → Type 0
+abbrev pub Syncs : FolderModel → FolderModel → Type 0
 Syncs k n =
     (n.at ≡ k.at) × (n.opened ≡ k.opened) × (n.paths ≡ k.paths) × (n.has_failed ≡ k.has_failed)
 
 -- the system failed, and nothing was changed
-abbrev pub Fails : Known → Known → Type 0
+abbrev pub Fails : FolderModel → FolderModel → Type 0
 Fails k n =
     (n.at ≡ k.at) × (n.opened ≡ k.opened) × (n.paths ≡ k.paths) × (n.has_failed ≡ true)
 
 -- ---- reading
 
 -- a file of this path was found, and will give what it contains
-abbrev pub IsFileOf : Option Known → List ℕ → Option (List ℕ) → Type 0
+abbrev pub IsFileOf : Option FolderModel → List ℕ → Option (List ℕ) → Type 0
 IsFileOf None path file = ⊤
 IsFileOf (Some k) path file = (file ≡ k.at path) × (is_some file ≡ true)
 
 -- no file of this path was found
-abbrev pub HasNoFile : Option Known → List ℕ → Type 0
+abbrev pub HasNoFile : Option FolderModel → List ℕ → Type 0
 HasNoFile None path = ⊤
 HasNoFile (Some k) path = k.at path ≡ None
 
 -- this is why nothing is opened at a path
-abbrev pub IsCauseAt : Option Known → List ℕ → OpenFailed → Type 0
+abbrev pub IsCauseAt : Option FolderModel → List ℕ → OpenFailed → Type 0
 IsCauseAt None path cause = ⊤
 IsCauseAt (Some k) path cause = cause ≡ k.paths.cause path
 
 -- nothing was changed, except that these paths were opened, in order
-abbrev pub Opens : List (List ℕ) → Known → Known → Type 0
+abbrev pub Opens : List (List ℕ) → FolderModel → FolderModel → Type 0
 Opens paths k n =
     (n.opened ≡ k.opened ++ paths) × (n.at ≡ k.at)
     × (n.paths ≡ k.paths) × (n.has_failed ≡ k.has_failed)
@@ -86,12 +87,12 @@ tried at [] = []
 tried at (path ∷ paths) = path ∷ (if is_some (at path) then tried at paths else [])
 
 -- one of these paths has no file, and no path was opened after the first such
-abbrev pub Misses : List (List ℕ) → Known → Known → Type 0
+abbrev pub Misses : List (List ℕ) → FolderModel → FolderModel → Type 0
 Misses paths k n =
     (list_all (λ path. is_some (k.at path)) paths ≡ false) × Opens (tried k.at paths) k n
 
 -- a file of one of these paths could not be opened
-abbrev pub CannotOpen : List (List ℕ) → Option Known → Option Known → Type 0
+abbrev pub CannotOpen : List (List ℕ) → Option FolderModel → Option FolderModel → Type 0
 CannotOpen paths old new = (paths ≢ []) × Changes (Misses paths) old new
 
 -- a path is one of these
@@ -104,12 +105,13 @@ abbrev pub first_missed : (List ℕ → Option (List ℕ)) → List (List ℕ) �
 first_missed at [] = None
 first_missed at (path ∷ paths) = if is_some (at path) then first_missed at paths else Some path
 
-abbrev pub IsFirstMissed : List (List ℕ) → List ℕ → Option Known → Type 0
+abbrev pub IsFirstMissed : List (List ℕ) → List ℕ → Option FolderModel → Type 0
 IsFirstMissed paths path None = IsOneOf paths path
 IsFirstMissed paths path (Some k) = first_missed k.at paths ≡ Some path
 
 -- the file of this path, the first of these that has none, could not be opened, by this cause
-abbrev pub IsOpenFailure : List (List ℕ) → List ℕ → OpenFailed → Option Known → Option Known →
+abbrev pub IsOpenFailure : List (List ℕ) → List ℕ → OpenFailed → Option FolderModel
+    → Option FolderModel →
     Type 0
 IsOpenFailure paths path cause old new =
     CannotOpen paths old new × IsFirstMissed paths path old × IsCauseAt old path cause
@@ -120,7 +122,7 @@ path_if None = []
 path_if (Some path) = path ∷ []
 
 -- the file of a path that may be given, and none if no path is given
-abbrev pub IsFileIf : Option Known → Option (List ℕ) → Option (Option (List ℕ)) → Type 0
+abbrev pub IsFileIf : Option FolderModel → Option (List ℕ) → Option (Option (List ℕ)) → Type 0
 IsFileIf known None found = found ≡ None
 IsFileIf known (Some path) found =
     (file : Option (List ℕ)) × (found ≡ Some file) × IsFileOf known path file
@@ -133,39 +135,39 @@ module _ {S : Type 0} where
 -- ---- keeping
 
 -- all paths except this one contain what they did
-abbrev pub KeepsOthers : List ℕ → Known → Known → Type 0
+abbrev pub KeepsOthers : List ℕ → FolderModel → FolderModel → Type 0
 KeepsOthers path k n =
     (n.opened ≡ k.opened) × (n.paths ≡ k.paths)
     × ((other : List ℕ) → other ≢ path → n.at other ≡ k.at other)
 
 -- the file of this path contains this now, or was removed, and nothing else was changed
-abbrev pub Becomes : List ℕ → Option (List ℕ) → Known → Known → Type 0
+abbrev pub Becomes : List ℕ → Option (List ℕ) → FolderModel → FolderModel → Type 0
 Becomes path file k n =
     KeepsOthers path k n × (n.at path ≡ file) × (n.has_failed ≡ k.has_failed)
 
 -- what the file of this path contains, or nothing if there is no file
-abbrev pub held_at : Known → List ℕ → List ℕ
+abbrev pub held_at : FolderModel → List ℕ → List ℕ
 held_at k path = unwrap_or (k.at path) []
 
 -- the file of this path, which no other run has, is there with what it contained, or empty if there
 -- was no file, and nothing else was changed
-abbrev pub Keeps : List ℕ → Known → Known → Type 0
+abbrev pub Keeps : List ℕ → FolderModel → FolderModel → Type 0
 Keeps path k n =
     Becomes path (Some (held_at k path)) k n
     × (k.paths.is_stream path ≡ false) × (k.paths.is_held path ≡ false)
 
 -- a file that is kept contains what that of this path did, or nothing if there was no file
-abbrev pub IsKeptAt : Option Known → List ℕ → Option (List ℕ) → Type 0
+abbrev pub IsKeptAt : Option FolderModel → List ℕ → Option (List ℕ) → Type 0
 IsKeptAt None path contents = ⊤
 IsKeptAt (Some k) path contents = contents ≡ Some (held_at k path)
 
 -- the file of this path is not kept: another run has it, the system failed, or no file is there
-abbrev pub CannotKeep : List ℕ → KeepFault → Known → Known → Type 0
+abbrev pub CannotKeep : List ℕ → KeepFault → FolderModel → FolderModel → Type 0
 CannotKeep path Held k n = Stays k n × (k.paths.is_held path ≡ true)
 CannotKeep path (NotOpened cause) k n = Fails k n ⊎ (Stays k n × (k.paths.is_stream path ≡ true))
 
 -- the file of this path contains this from now on, if that is known, and nothing else was changed
-abbrev pub Leaves : List ℕ → Option (List ℕ) → Known → Known → Type 0
+abbrev pub Leaves : List ℕ → Option (List ℕ) → FolderModel → FolderModel → Type 0
 Leaves path contents k n =
     KeepsOthers path k n × (n.has_failed ≡ k.has_failed)
     × IfSome contents (λ bytes. n.at path ≡ Some bytes)
@@ -173,47 +175,47 @@ Leaves path contents k n =
 -- ---- saving
 
 -- the file of this path, or the name if there is no file, is locked, and no other run has it
-abbrev pub Locks : List ℕ → Known → Known → Type 0
+abbrev pub Locks : List ℕ → FolderModel → FolderModel → Type 0
 Locks path k n =
     Stays k n × (k.paths.is_stream path ≡ false → k.paths.is_held path ≡ false)
 
 -- the file of this path is not locked: another run has it, or the system failed
-abbrev pub CannotLock : List ℕ → KeepFault → Known → Known → Type 0
+abbrev pub CannotLock : List ℕ → KeepFault → FolderModel → FolderModel → Type 0
 CannotLock path Held k n = Stays k n × (k.paths.is_held path ≡ true)
 CannotLock path (NotOpened cause) k n = Fails k n
 
 -- a path leads to this place
-abbrev pub IsPlaceOf : List ℕ → List ℕ → Known → Known → Type 0
+abbrev pub IsPlaceOf : List ℕ → List ℕ → FolderModel → FolderModel → Type 0
 IsPlaceOf path place k n = Stays k n × (place ≡ k.paths.place path)
 
 -- nothing was changed, since memory ran out or the system failed
-abbrev pub LeavesAll : SaveFault → Known → Known → Type 0
+abbrev pub LeavesAll : SaveFault → FolderModel → FolderModel → Type 0
 LeavesAll saves.NoMemory k n = Stays k n
 LeavesAll (saves.WriteFault cause) k n = Fails k n
 LeavesAll saves.NotSynced k n = ⊥
 LeavesAll (saves.Changed unfinished) k n = ⊥
 
 -- what is at this path was written in part, at most, since the system failed
-abbrev pub Spoils : List ℕ → Known → Known → Type 0
+abbrev pub Spoils : List ℕ → FolderModel → FolderModel → Type 0
 Spoils path k n = KeepsOthers path k n × (n.has_failed ≡ true)
 
 -- a text is at a path beside this place, at which nothing was, and nothing else was changed
-abbrev pub WritesBeside : List ℕ → List ℕ → List ℕ → Known → Known → Type 0
+abbrev pub WritesBeside : List ℕ → List ℕ → List ℕ → FolderModel → FolderModel → Type 0
 WritesBeside place text path k n =
     (path ≢ place) × (k.at path ≡ None) × Becomes path (Some text) k n
 
 -- what the file at this place contains is at another path too, at which nothing was, and nothing
 -- else was changed
-abbrev pub BacksUp : List ℕ → List ℕ → Known → Known → Type 0
+abbrev pub BacksUp : List ℕ → List ℕ → FolderModel → FolderModel → Type 0
 BacksUp place path k n =
     (path ≢ place) × (k.at path ≡ None) × Becomes path (k.at place) k n
 
 -- it was found whether the file of this path contains exactly these bytes, and nothing was changed
-abbrev pub Compares : List ℕ → List ℕ → Bool → Known → Known → Type 0
+abbrev pub Compares : List ℕ → List ℕ → Bool → FolderModel → FolderModel → Type 0
 Compares path bytes same k n = Stays k n × ((same ≡ true) ↔ (k.at path ≡ Some bytes))
 
 -- a file was put at another path, and no one else had changed what is there
-abbrev pub Moves : List ℕ → List ℕ → Known → Known → Type 0
+abbrev pub Moves : List ℕ → List ℕ → FolderModel → FolderModel → Type 0
 Moves from to k n =
     (n.opened ≡ k.opened) × (n.paths ≡ k.paths) × (n.has_failed ≡ k.has_failed)
     × (n.at to ≡ k.at from) × (from ≢ to → n.at from ≡ None)
@@ -221,30 +223,31 @@ Moves from to k n =
     × (k.paths.is_changed to ≡ false)
 
 -- no file was put at this path: someone else had changed what is there, or the system failed
-abbrev pub CannotMove : List ℕ → MoveFault → Known → Known → Type 0
+abbrev pub CannotMove : List ℕ → MoveFault → FolderModel → FolderModel → Type 0
 CannotMove to moves.Changed k n = Stays k n × (k.paths.is_changed to ≡ true)
 CannotMove to moves.Failed k n = Fails k n
 
 -- what is at this place is what was there at first. No one else put another file there, and it
 -- contains the bytes that were loaded from it, if these are given
-abbrev pub IsUnchanged : List ℕ → Option (List ℕ) → Known → Type 0
+abbrev pub IsUnchanged : List ℕ → Option (List ℕ) → FolderModel → Type 0
 IsUnchanged place loaded_bytes k =
     (k.paths.is_changed place ≡ false) × IfSome loaded_bytes (λ bytes. k.at place ≡ Some bytes)
 
-abbrev pub HasChanged : List ℕ → Option (List ℕ) → Known → Type 0
+abbrev pub HasChanged : List ℕ → Option (List ℕ) → FolderModel → Type 0
 HasChanged place loaded_bytes k =
     (k.paths.is_changed place ≡ true)
     ⊎ ((bytes : List ℕ) × (loaded_bytes ≡ Some bytes) × (k.at place ≢ Some bytes))
 
 -- the text is at this place, and all other paths are as they were. A file that it replaced was what
 -- was there at first
-abbrev pub SavesAt : List ℕ → Option (List ℕ) → List ℕ → Known → Known → Type 0
+abbrev pub SavesAt : List ℕ → Option (List ℕ) → List ℕ → FolderModel → FolderModel → Type 0
 SavesAt place loaded_bytes text k n =
     Becomes place (Some text) k n
     × (k.paths.is_stream place ≡ false → IsUnchanged place loaded_bytes k)
 
 -- the text was not saved at this place, by this fault
-abbrev pub CannotSaveAt : List ℕ → Option (List ℕ) → List ℕ → SaveFault → Known → Known → Type 0
+abbrev pub CannotSaveAt : List ℕ → Option (List ℕ) → List ℕ → SaveFault → FolderModel
+    → FolderModel → Type 0
 CannotSaveAt place loaded_bytes text saves.NoMemory k n = Stays k n
 CannotSaveAt place loaded_bytes text (saves.WriteFault cause) k n =
     KeepsOthers place k n × (n.has_failed ≡ true)
@@ -257,10 +260,11 @@ CannotSaveAt place loaded_bytes text (saves.Changed unfinished) k n =
     × WritesBeside place text (string_bytes unfinished) k n
 
 -- the text was saved at the place that the path leads to
-abbrev pub Saves : List ℕ → Option (List ℕ) → List ℕ → Known → Known → Type 0
+abbrev pub Saves : List ℕ → Option (List ℕ) → List ℕ → FolderModel → FolderModel → Type 0
 Saves path loaded_bytes text k n = SavesAt (k.paths.place path) loaded_bytes text k n
 
 -- the text was not saved at the place that the path leads to, by this fault
-abbrev pub CannotSave : List ℕ → Option (List ℕ) → List ℕ → SaveFault → Known → Known → Type 0
+abbrev pub CannotSave : List ℕ → Option (List ℕ) → List ℕ → SaveFault → FolderModel → FolderModel
+    → Type 0
 CannotSave path loaded_bytes text fault k n =
     CannotSaveAt (k.paths.place path) loaded_bytes text fault k n

@@ -2,7 +2,8 @@
 //! to.
 ghost use Rattle.std.specs.Prelude.{◌≡◌, ◌∷◌, [], Option, Some, None, IfOk, IfErr};
 ghost use Rattle.std.specs.Prelude.{IfSome, OnOk, OnErr, false, string_bytes};
-ghost use Rattle.osn_folder.specs.Folder.{Known, Changes, Stays, Fails, IsFileOf, HasNoFile, Opens};
+ghost use Rattle.osn_folder.specs.Folder.{FolderModel, Changes, Stays, Fails, IsFileOf, HasNoFile};
+ghost use Rattle.osn_folder.specs.Folder.{Opens};
 ghost use Rattle.osn_folder.specs.Folder.{IsCauseAt};
 ghost use Rattle.osn_folder.specs.Folder.{Becomes, IsKeptAt, Keeps, CannotKeep};
 ghost use Rattle.osn_folder.specs.Folder.{Leaves};
@@ -34,7 +35,7 @@ pub trait Folder {
     type Followed: FollowedFile + Drop;
 
     // What its files contain, and which were opened, if that is known.
-    ghost known: { Self → Option Known };
+    ghost known: { Self → Option FolderModel };
 
     /// Opens a file, to be read from its first byte on.
     ///

@@ -16,7 +16,7 @@ use Rattle.osn_days.proofs.DateDigits.{two_digits, four_digits}
 use Rattle.osn_grammar.specs.declared.token.Token.{Token}
 use Rattle.osn_grammar.specs.declared.token.Token.TheVariants.{Number, Dash, Slash, Open, About}
 use Rattle.osn_grammar.specs.declared.token.Token.TheVariants.{Doubt, AboutAndDoubt}
-use Rattle.osn_grammar.specs.declared.written.DateOrder.{DateOrder}
+use Rattle.osn_grammar.specs.declared.text_reading.DateOrder.{DateOrder}
 use Rattle.osn_written.specs.declared.any_date.Extent.TheVariants as extent
 use Rattle.osn_written.specs.declared.any_date.PartialDate.{PartialDate}
 use Rattle.osn_written.specs.declared.any_date.PartialDate.TheVariants as date

@@ -8,7 +8,7 @@ use Rattle.osn_grammar.specs.declared.token.Token.TheVariants.{Number, Month, Sl
 use Rattle.osn_grammar.specs.declared.token.Token.TheVariants.{After, Not}
 use Rattle.osn_written.specs.declared.written_date.DateFault.{DateFault}
 use Rattle.osn_written.specs.declared.written_date.DateFault.TheVariants as faults
-use Rattle.osn_grammar.specs.declared.written.DateOrder.{DateOrder}
+use Rattle.osn_grammar.specs.declared.text_reading.DateOrder.{DateOrder}
 use Rattle.osn_written.specs.declared.any_date.Extent.{Extent}
 use Rattle.osn_written.specs.declared.any_date.Extent.TheVariants as extent
 use Rattle.osn_written.specs.declared.any_date.PartialDate.{PartialDate}
@@ -172,7 +172,7 @@ on_is {ps} read = record {
 
 both_add : (ps qs : List Token) → Adds ps → Adds qs → Adds (ps ++ qs)
 both_add ps qs first last rest ts w r a u s rest_says =
-    subst₂ (λ tokens timed. Say tokens timed w r a u s) (sym (append_assoc ps qs rest))
+    subst₂ (λ tokens time_tokens. Say tokens time_tokens w r a u s) (sym (append_assoc ps qs rest))
     (sym (append_assoc ps qs ts))
     (first (qs ++ rest) (qs ++ ts) w r a u s (last rest ts w r a u s rest_says))
 

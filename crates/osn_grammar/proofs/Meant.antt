@@ -11,7 +11,7 @@ use Rattle.osn_days.specs.Chain.{date_of}
 use Rattle.osn_days.specs.Line.{line, IsDay}
 use Rattle.osn_days.specs.Rules.{Rules, newest_rules}
 use Rattle.osn_territory.specs.declared.label.Label.{Label}
-use Rattle.osn_territory.specs.Dated.{dated_on}
+use Rattle.osn_territory.specs.Dating.{dated_on}
 use Rattle.osn_territory.specs.Label.{local_label, same_label}
 use Rattle.osn_territory.specs.Territory.{TerritoryModel, regime_at, reading}
 use Rattle.osn_territory.proofs.LabelFacts.{same_label_decides}

@@ -12,7 +12,7 @@ use Rattle.osn_grammar.specs.declared.token.Token.{Token}
 use Rattle.osn_grammar.specs.declared.token.Token.TheVariants.{Number, Dash, Open}
 use Rattle.osn_written.specs.declared.written_date.DateFault.{DateFault}
 use Rattle.osn_written.specs.declared.written_date.DateFault.TheVariants as faults
-use Rattle.osn_grammar.specs.declared.written.DateOrder.{DateOrder}
+use Rattle.osn_grammar.specs.declared.text_reading.DateOrder.{DateOrder}
 use Rattle.osn_written.specs.declared.any_date.Extent.{Extent}
 use Rattle.osn_written.specs.declared.any_date.Reckoning.{Reckoning}
 use Rattle.osn_written.specs.declared.any_date.PartialDate.{PartialDate}
@@ -115,10 +115,10 @@ day_refused {more} y m d none o before =
     (both_err (Err faults.Malformed) end refl (none.range o at_end)))))
 
 -- the parts of days that say which day is meant, one after another
-abbrev pub timed : List Days → List Token
-timed [] = []
-timed ((d, None) ∷ rest) = tokens_of_date d ++ timed rest
-timed ((d, Some e) ∷ rest) = tokens_of_date d ++ Open ∷ (tokens_of_date e ++ timed rest)
+abbrev pub time_tokens : List Days → List Token
+time_tokens [] = []
+time_tokens ((d, None) ∷ rest) = tokens_of_date d ++ time_tokens rest
+time_tokens ((d, Some e) ∷ rest) = tokens_of_date d ++ Open ∷ (tokens_of_date e ++ time_tokens rest)
 
 opened : {more : List Token} (e : Date) → AreNoDate more
     → AreNoDate (Open ∷ (tokens_of_date e ++ more))
@@ -130,7 +130,7 @@ opened {more} e none = record {
       (day_refused (unsigned_abs e.year) e.month e.day none o (before ++ Open ∷ []));
 }
 
-no_date : (days : List Days) → AreNoDate (timed days)
+no_date : (days : List Days) → AreNoDate (time_tokens days)
 no_date [] = nothing_more
 no_date ((d, None) ∷ rest) = record {
   month = λ o m e. refl;
@@ -144,13 +144,13 @@ no_date ((d, Some e) ∷ rest) = record {
 }
 
 pub extent_refused : (o : DateOrder) (first next : Days) (rest : List Days)
-    → is_err (extent_of o (timed (first ∷ next ∷ rest))) ≡ true
+    → is_err (extent_of o (time_tokens (first ∷ next ∷ rest))) ≡ true
 unfolding date_or_range
 extent_refused o (d, None) (e, None) rest = (no_date ((d, None) ∷ (e, None) ∷ rest)).range o []
 extent_refused o (d, None) (e, Some f) rest = (no_date ((d, None) ∷ (e, Some f) ∷ rest)).range o []
 extent_refused o (d, Some e) next rest = (no_date ((d, Some e) ∷ next ∷ rest)).range o []
 
-pub dated : (days : Days) (rest : List Days) → is_undated (timed (days ∷ rest)) ≡ false
+pub dated : (days : Days) (rest : List Days) → is_undated (time_tokens (days ∷ rest)) ≡ false
 dated (d, None) rest = refl
 dated (d, Some e) rest = refl
 
@@ -245,7 +245,7 @@ unless_refused false o tokens ts other wrong =
     })) (extent_in_refused o tokens ts (reckoning_after None tokens) other wrong))
 
 pub other_refused : (first next : Days) (rest : List Days)
-    → HaveNoOtherForm (timed (first ∷ next ∷ rest))
+    → HaveNoOtherForm (time_tokens (first ∷ next ∷ rest))
 other_refused (d, None) (e, None) rest = record {
   estimated = λ o tokens. refl;
   digits = refl;

@@ -20,10 +20,10 @@ use Rattle.osn_grammar.specs.declared.token.Token.{Token}
 use Rattle.osn_grammar.specs.declared.token.Token.TheVariants.{Open, Bracket}
 use Rattle.osn_written.specs.declared.written_date.DateFault.{DateFault}
 use Rattle.osn_written.specs.declared.any_date.Extent.{Extent}
-use Rattle.osn_grammar.specs.declared.written.Written.{Written}
-use Rattle.osn_grammar.specs.declared.written.Written.TheVariants as say
+use Rattle.osn_grammar.specs.declared.text_reading.TextReading.{TextReading}
+use Rattle.osn_grammar.specs.declared.text_reading.TextReading.TheVariants as say
 use Rattle.osn_written.specs.declared.any_date.AnyDate.{AnyDate}
-use Rattle.osn_grammar.specs.InDigits.{HasFourDigits, sign, signed}
+use Rattle.osn_grammar.specs.InDigits.{HasFourDigits, sign, text_with_signs}
 use Rattle.osn_grammar.specs.Tokens.{is_of_time}
 use Rattle.osn_grammar.specs.Reading.{all_members, member_by, member_in, member_of, or_set}
 use Rattle.osn_grammar.specs.Reading.{or_years}
@@ -43,7 +43,7 @@ use Rattle.osn_grammar.proofs.TextFacts.{closed_scans, is_low-append, joined_rea
 use Rattle.osn_grammar.proofs.TextFacts.{tokens_scanned, reads_scan}
 use Rattle.osn_grammar.proofs.WordFacts.{bracket_begins}
 use Rattle.osn_grammar.proofs.RefusedFacts.{dated, extent_refused, other_refused, tokens_of_date}
-use Rattle.osn_grammar.proofs.RefusedFacts.{said_refused, timed}
+use Rattle.osn_grammar.proofs.RefusedFacts.{said_refused, time_tokens}
 
 -- ---- the texts of days
 
@@ -121,7 +121,7 @@ sign_clear false true = one_clear 63 refl
 sign_clear true false = one_clear 126 refl
 sign_clear true true = one_clear 37 refl
 
-signed_clear : (a u : Bool) (d : Date) → HasFourDigits d → IsClear (signed d a u)
+signed_clear : (a u : Bool) (d : Date) → HasFourDigits d → IsClear (text_with_signs d a u)
 signed_clear a u d h =
     let clear = date_clear d h in
     record {
@@ -196,10 +196,10 @@ member_is a u (d, Some e) (h, g) =
     let P : ℕ → Type 0 = λ b. (b == 44) ≡ false in
     record {
       reads = dotted_reads (signed_reads a u first.reads) (signed_reads a u last.reads) clear;
-      no_comma = All-append P (signed d a u) (46 ∷ 46 ∷ signed e a u)
+      no_comma = All-append P (text_with_signs d a u) (46 ∷ 46 ∷ text_with_signs e a u)
           (signed_clear a u d h).no_comma
-          (All-cons P 46 (46 ∷ signed e a u) refl
-          (All-cons P 46 (signed e a u) refl clear.no_comma));
+          (All-cons P 46 (46 ∷ text_with_signs e a u) refl
+          (All-cons P 46 (text_with_signs e a u) refl clear.no_comma));
       is = range_is a u d e first.is last.is;
     }
 
@@ -247,7 +247,7 @@ last_timed true false rest = refl
 last_timed true true rest = refl
 
 tokens_timed : (a u : Bool) (days : List Days) → filter is_of_time (all_tokens a u days)
-    ≡ timed days
+    ≡ time_tokens days
 tokens_timed a u [] = refl
 tokens_timed a u ((d, None) ∷ rest) =
     ap (λ ts. tokens_of_date d ++ ts)
@@ -288,7 +288,7 @@ unfolding set_in
 members_are a u first rest all =
     ap set_inside (last_without 93 (body a u (first ∷ rest))) ∙ texts_read a u first rest all
 
-set_said : (ws : List AnyDate) (r : Result Written DateFault) → is_err r ≡ true
+set_said : (ws : List AnyDate) (r : Result TextReading DateFault) → is_err r ≡ true
     → or_set (Ok ws) r ≡ Ok say.Set
 set_said ws (Ok said) wrong = absurd (cc)
 set_said ws (Err fault) wrong = refl
@@ -304,13 +304,13 @@ sets_law o a u first next rest all =
     let scans : Scans text (Bracket ∷ inside) =
     begun_scans bracket_begins
     (closed_scans (body_reads a u first (next ∷ rest) all) bracket_closes) in
-    let filtered : filter is_of_time (Bracket ∷ inside) ≡ timed days =
+    let filtered : filter is_of_time (Bracket ∷ inside) ≡ time_tokens days =
     filter-append is_of_time (all_tokens a u days) (Bracket ∷ [])
     ∙ append-nil (filter is_of_time (all_tokens a u days)) ∙ tokens_timed a u days in
     let P : List Token → Type 0 = λ ps. is_err (reading_of_tokens o ps (filter is_of_time ps))
     ≡ true in
     let wrong : P (tokens_in text) = subst P (sym (tokens_scanned scans))
-    (said_refused o Bracket inside (timed days) filtered (dated first (next ∷ rest))
+    (said_refused o Bracket inside (time_tokens days) filtered (dated first (next ∷ rest))
     (other_refused first next rest) (extent_refused o first next rest)) in
     record {
       is = ap (λ read. or_list (list_in text) (or_phrase o text

@@ -9,10 +9,10 @@ use Rattle.osn_grammar.specs.declared.token.Token.{Token}
 use Rattle.osn_grammar.specs.declared.token.Token.TheVariants as token
 use Rattle.osn_written.specs.declared.written_date.DateFault.{DateFault}
 use Rattle.osn_written.specs.declared.written_date.DateFault.TheVariants as faults
-use Rattle.osn_grammar.specs.declared.written.DateOrder.{DateOrder}
+use Rattle.osn_grammar.specs.declared.text_reading.DateOrder.{DateOrder}
 use Rattle.osn_written.specs.declared.any_date.Extent.{Extent}
 use Rattle.osn_written.specs.declared.any_date.Reckoning.{Reckoning}
-use Rattle.osn_grammar.specs.declared.written.Written.TheVariants as say
+use Rattle.osn_grammar.specs.declared.text_reading.TextReading.TheVariants as say
 use Rattle.osn_grammar.specs.Extent.{date_or_range, extent_of}
 use Rattle.osn_written.specs.AnyDate.{has_three_digits}
 use Rattle.osn_grammar.specs.Tokens.{is_of_time}
@@ -41,7 +41,7 @@ pub record Say (tokens times : List Token) (w : Option Weekday) (r : Option Reck
   pub doubt : list_any is_doubt tokens ≡ u
   pub bracket : list_any is_bracket tokens ≡ s
   pub feast : list_any is_feast tokens ≡ false
-  pub timed : filter is_of_time tokens ≡ times
+  pub time_tokens : filter is_of_time tokens ≡ times
 
 nothing_later : {X : Type 0} (found : Option X) → Ok found ≡ with_later found None
 nothing_later None = refl
@@ -59,7 +59,7 @@ nothing_says = record {
   doubt = refl;
   bracket = refl;
   feast = refl;
-  timed = refl;
+  time_tokens = refl;
 }
 
 -- ---- one part more
@@ -102,7 +102,7 @@ token_adds {ps} p plain rest_says = record {
   doubt = ap (λ b. is_doubt p || b) rest_says.doubt;
   bracket = ap (λ b. is_bracket p || b) rest_says.bracket;
   feast = rw (no_feast p plain) rest_says.feast;
-  timed = ap (λ ts. cond (is_of_time p) (p ∷ ts) ts) rest_says.timed;
+  time_tokens = ap (λ ts. cond (is_of_time p) (p ∷ ts) ts) rest_says.time_tokens;
 }
 
 reckoning_at_weekday : (found : Option Reckoning) (v : Weekday)
@@ -131,7 +131,7 @@ weekday_adds {ps} v rest_says = record {
   doubt = rest_says.doubt;
   bracket = rest_says.bracket;
   feast = rest_says.feast;
-  timed = rest_says.timed;
+  time_tokens = rest_says.time_tokens;
 }
 
 one_reckoning : (v : Reckoning) (ps : List Token) (found : Option Reckoning)
@@ -150,7 +150,7 @@ reckoning_adds {ps} v rest_says = record {
   doubt = rest_says.doubt;
   bracket = rest_says.bracket;
   feast = rest_says.feast;
-  timed = rest_says.timed;
+  time_tokens = rest_says.time_tokens;
 }
 
 -- parts that only add some that say which day is meant
@@ -174,11 +174,11 @@ tokens_read : {ts : List Token} {w : Option Weekday} {r : Option Reckoning} {a u
     }))
 unfolding date_or_range
 tokens_read {ts} [] o e read dated sure is =
-    let none : Err faults.Malformed ≡ Ok e = ap (extent_of o) read.timed ∙ is in absurd (cc)
+    let none : Err faults.Malformed ≡ Ok e = ap (extent_of o) read.time_tokens ∙ is in absurd (cc)
 tokens_read {ts} {w} {r} (p ∷ ps) o e read dated sure is =
     rw (
       ne_eqb (length (p ∷ ps)) 0 (λ none. omega (arith, none)),
-      read.timed,
+      read.time_tokens,
       dated,
       read.feast,
       read.weekday None,
@@ -195,11 +195,12 @@ tokens_read {ts} {w} {r} (p ∷ ps) o e read dated sure is =
 -- ---- a text
 
 -- the parts of the text say this, and these of them say which day is meant
-pub record TextSays (text : List ℕ) (timed : List Token) (w : Option Weekday) (r : Option Reckoning)
+pub record TextSays (text : List ℕ) (time_tokens : List Token) (w : Option Weekday)
+    (r : Option Reckoning)
     (a u s : Bool) : Type 0 where
   pub tokens : List Token
   pub scans : Scans text tokens
-  pub says : Say tokens timed w r a u s
+  pub says : Say tokens time_tokens w r a u s
 
 -- such a text is read as the date
 pub text_read : {text : List ℕ} {ts : List Token} {w : Option Weekday} {r : Option Reckoning}

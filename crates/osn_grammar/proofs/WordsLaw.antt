@@ -10,7 +10,7 @@ use Rattle.osn_grammar.specs.declared.token.Token.{Token}
 use Rattle.osn_grammar.specs.declared.token.Token.TheVariants.{Number, Month, Weekday as OnWeekday}
 use Rattle.osn_grammar.specs.declared.token.Token.TheVariants.{Reckoning as By, To, Before, After}
 use Rattle.osn_grammar.specs.declared.token.Token.TheVariants.{Not, Bracket, Doubt, About}
-use Rattle.osn_grammar.specs.declared.written.DateOrder.TheVariants.{Unknown}
+use Rattle.osn_grammar.specs.declared.text_reading.DateOrder.TheVariants.{Unknown}
 use Rattle.osn_written.specs.declared.any_date.Extent.{Extent}
 use Rattle.osn_written.specs.declared.any_date.Extent.TheVariants as extent
 use Rattle.osn_written.specs.declared.any_date.Reckoning.{Reckoning}
@@ -231,7 +231,7 @@ closed_said : {x text : List ℕ} {ps : List Token} {e : Extent} {r : Option Rec
 closed_said {ps = ps} {r = r} {u = u} {s = s} reads is tail = record {
   tokens = ps ++ tail.tokens;
   scans = closed_scans reads tail.closes;
-  says = subst (λ timed. Say (ps ++ tail.tokens) timed None r false u s) (append-nil ps)
+  says = subst (λ time_tokens. Say (ps ++ tail.tokens) time_tokens None r false u s) (append-nil ps)
       (is.adds tail.tokens [] None r false u s tail.says);
 }
 

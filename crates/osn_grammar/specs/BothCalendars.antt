@@ -134,7 +134,8 @@ if_round tokens (Some dates) = if begin_round tokens then Some dates else None
 
 -- all parts, and those that say which day is meant
 abbrev pub dates_in : List Token → List Token → Option TwoDates
-dates_in tokens timed = or_dates (slashed_dates timed) (if_round tokens (beside timed))
+dates_in tokens time_tokens =
+    or_dates (slashed_dates time_tokens) (if_round tokens (beside time_tokens))
 
 -- ---- the Gregorian year
 
@@ -238,7 +239,7 @@ day_if_two p None = Err faults.Malformed
 day_if_two p (Some dates) = day_of_both p dates
 
 abbrev pub day_by_both : Rules → List Token → List Token → Result ReckonedDay DateFault
-day_by_both p tokens timed = day_if_two p (dates_in tokens timed)
+day_by_both p tokens time_tokens = day_if_two p (dates_in tokens time_tokens)
 
 -- ---- with the names of both calendars
 
@@ -264,5 +265,5 @@ are_named (Weekday w ∷ Number a ∷ Month m ∷ rest) = is_old_first rest
 are_named _ = false
 
 abbrev pub named_day : Rules → List Token → List Token → Result ReckonedDay DateFault
-named_day p tokens timed =
-    if are_named tokens then day_by_both p tokens timed else Err faults.Malformed
+named_day p tokens time_tokens =
+    if are_named tokens then day_by_both p tokens time_tokens else Err faults.Malformed

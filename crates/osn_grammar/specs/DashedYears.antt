@@ -47,8 +47,8 @@ slashed_after earlier before [] = []
 slashed_after earlier before (token ∷ rest) =
     with_slash earlier before token rest ∷ slashed_after before (Some token) rest
 
-abbrev pub slashed : List Token → List Token
-slashed tokens = slashed_after None None tokens
+abbrev pub with_slashes : List Token → List Token
+with_slashes tokens = slashed_after None None tokens
 
 -- a month by its name, and one after March
 abbrev pub is_month : Token → Bool

@@ -9,7 +9,7 @@ use Rattle.osn_days.specs.Rules.{Rules}
 use Rattle.osn_days.specs.Weekday.{weekday_name, weekday_numbered}
 use Rattle.osn_territory.specs.declared.label.Label.{Label}
 use Rattle.osn_territory.specs.declared.regime.Regime.{Regime}
-use Rattle.osn_territory.specs.Dated.{dated_on}
+use Rattle.osn_territory.specs.Dating.{dated_on}
 use Rattle.osn_territory.specs.Dual.{dual_text}
 use Rattle.osn_territory.specs.Label.{local_label}
 use Rattle.osn_territory.specs.Territory.{TerritoryModel, regime_at}

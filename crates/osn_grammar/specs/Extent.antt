@@ -16,7 +16,7 @@ use Rattle.osn_grammar.specs.declared.token.Token.TheVariants.{After, No, Not, B
 use Rattle.osn_grammar.specs.declared.token.Token.TheVariants.{Than}
 use Rattle.osn_written.specs.declared.written_date.DateFault.{DateFault}
 use Rattle.osn_written.specs.declared.written_date.DateFault.TheVariants as faults
-use Rattle.osn_grammar.specs.declared.written.DateOrder.{DateOrder}
+use Rattle.osn_grammar.specs.declared.text_reading.DateOrder.{DateOrder}
 use Rattle.osn_written.specs.declared.any_date.Extent.{Extent}
 use Rattle.osn_written.specs.declared.any_date.Extent.TheVariants as extent
 use Rattle.osn_written.specs.declared.any_date.PartialDate.{PartialDate}
@@ -171,17 +171,18 @@ dashed_range o first last =
 
 -- what joins two dates: `to`, `or`, `au`, a dash and a `/`, after `from` only `to`, `au` or a dash,
 -- and after `between` only `and`
-abbrev pub joined : DateOrder → Joining → List Token → Token → List Token → Result Extent DateFault
-joined o joins.Any first Slash last = slashed_range o first last
-joined o joins.Any first To last = range o first last
-joined o joins.Any first Or last = range o first last
-joined o joins.Any first ToThe last = range o first last
-joined o joins.Any first Dash last = dashed_range o first last
-joined o joins.To first To last = range o first last
-joined o joins.To first ToThe last = range o first last
-joined o joins.To first Dash last = dashed_range o first last
-joined o joins.And first And last = range o first last
-joined o joining first token last = Err faults.Malformed
+abbrev pub join_dates : DateOrder → Joining → List Token → Token → List Token
+    → Result Extent DateFault
+join_dates o joins.Any first Slash last = slashed_range o first last
+join_dates o joins.Any first To last = range o first last
+join_dates o joins.Any first Or last = range o first last
+join_dates o joins.Any first ToThe last = range o first last
+join_dates o joins.Any first Dash last = dashed_range o first last
+join_dates o joins.To first To last = range o first last
+join_dates o joins.To first ToThe last = range o first last
+join_dates o joins.To first Dash last = dashed_range o first last
+join_dates o joins.And first And last = range o first last
+join_dates o joining first token last = Err faults.Malformed
 
 -- the first of two readings that succeeds, or else the first fault other than Malformed
 abbrev pub first_read : Result Extent DateFault → Result Extent DateFault
@@ -195,7 +196,7 @@ first_read (Err f) (Err g) = Err f
 abbrev pub range_after : DateOrder → Joining → List Token → List Token → Result Extent DateFault
 range_after o joining before [] = Err faults.Malformed
 range_after o joining before (token ∷ rest) =
-    first_read (joined o joining before token rest)
+    first_read (join_dates o joining before token rest)
     (range_after o joining (before ++ token ∷ []) rest)
 
 -- ---- one date, a range or a bound

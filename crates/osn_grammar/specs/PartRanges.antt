@@ -39,11 +39,11 @@ year_in (date.Month year month) = year
 year_in (date.Year year) = year
 
 -- the first part may lack its year: late May to early June 1675
-abbrev pub lacking : Year → List Token → Option Extent
-lacking year (token.Portion p ∷ token.Month m ∷ []) = Some (part_of_month p year m)
-lacking year (token.Season first ∷ []) =
+abbrev pub part_without_year : Year → List Token → Option Extent
+part_without_year year (token.Portion p ∷ token.Month m ∷ []) = Some (part_of_month p year m)
+part_without_year year (token.Season first ∷ []) =
     if nat_le first 10 then three_months (Ok year) first else None
-lacking year _ = None
+part_without_year year _ = None
 
 abbrev pub or_lacking : Option Extent → Option Extent → Option Extent
 or_lacking (Some e) other = Some e
@@ -57,21 +57,22 @@ from_to (Some first) (Some last) = Some (extent.FromTo first last)
 abbrev pub range_to : List Token → Option PartialDate → Option Extent
 range_to first None = None
 range_to first (Some last) =
-    from_to (start_in (or_lacking (period_in first) (lacking (year_in last) first))) (Some last)
+    from_to (start_in (or_lacking (period_in first) (part_without_year (year_in last) first)))
+    (Some last)
 
 -- what joins two of them: `to`, `or`, a dash, and `au`
-abbrev pub joined : List Token → Token → List Token → Option Extent
-joined first token.To last = range_to first (stop_in (period_in last))
-joined first token.Or last = range_to first (stop_in (period_in last))
-joined first token.Dash last = range_to first (stop_in (period_in last))
-joined first token.ToThe last = range_to first (stop_in (period_in last))
-joined first token last = None
+abbrev pub join_parts : List Token → Token → List Token → Option Extent
+join_parts first token.To last = range_to first (stop_in (period_in last))
+join_parts first token.Or last = range_to first (stop_in (period_in last))
+join_parts first token.Dash last = range_to first (stop_in (period_in last))
+join_parts first token.ToThe last = range_to first (stop_in (period_in last))
+join_parts first token last = None
 
 -- the range that parts are after some others, at the first part that joins two of them
 abbrev pub parts_after : List Token → List Token → Option Extent
 parts_after before [] = None
 parts_after before (token ∷ rest) =
-    or_lacking (joined before token rest) (parts_after (before ++ token ∷ []) rest)
+    or_lacking (join_parts before token rest) (parts_after (before ++ token ∷ []) rest)
 
 abbrev pub part_range : List Token → Option Extent
 part_range tokens = parts_after [] tokens

@@ -131,8 +131,8 @@ coded_by y code (Some first) =
     three_months (year_of (one y)) first
     else None
 
-abbrev pub coded : Numeral → Numeral → Option Extent
-coded y code = coded_by y code (month_by_code code.value)
+abbrev pub part_of_code : Numeral → Numeral → Option Extent
+part_of_code y code = coded_by y code (month_by_code code.value)
 
 -- ---- a part of a time
 
@@ -146,7 +146,7 @@ nth_part (Some nth) fraction whole = part_of (portion_of nth fraction) whole
 
 -- the part after its time: 1675, early; 1675, spring
 abbrev pub after_number : Numeral → List Token → Option Extent
-after_number n (Dash ∷ Number code ∷ []) = coded n code
+after_number n (Dash ∷ Number code ∷ []) = part_of_code n code
 after_number n (token.Portion p ∷ []) = part_of_date p (whole_year (one n))
 after_number n (Season first ∷ []) = season_of first n
 after_number n (token.Fraction fraction ∷ whole) = nth_part (nth_of n.value) fraction whole

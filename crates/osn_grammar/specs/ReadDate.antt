@@ -1,8 +1,8 @@
 -- The date that a query asks about, and the date of one day, of a text. This project's profile.
 use Rattle.std.specs.Prelude.{ℕ, List, Result, Ok, Err}
-use Rattle.osn_grammar.specs.declared.written.DateOrder.TheVariants.{Unknown}
-use Rattle.osn_grammar.specs.declared.written.Written.{Written}
-use Rattle.osn_grammar.specs.declared.written.Written.TheVariants as say
+use Rattle.osn_grammar.specs.declared.text_reading.DateOrder.TheVariants.{Unknown}
+use Rattle.osn_grammar.specs.declared.text_reading.TextReading.{TextReading}
+use Rattle.osn_grammar.specs.declared.text_reading.TextReading.TheVariants as say
 use Rattle.osn_grammar.specs.Reading.{members, read_date}
 use Rattle.osn_written.specs.declared.any_date.AnyDate.{AnyDate}
 use Rattle.osn_written.specs.declared.date_reading.DateReading.{DateReading}
@@ -15,7 +15,7 @@ use Rattle.osn_written.specs.PlainDay.{plain_day}
 -- ---- the date that a query asks about
 
 -- the date, the set of these dates, or why the text is not a date
-abbrev pub reading_by : List AnyDate → Result Written DateFault → DateReading
+abbrev pub reading_by : List AnyDate → Result TextReading DateFault → DateReading
 reading_by ws (Ok (say.Date w)) = readings.Date w
 reading_by ws (Ok say.Set) = readings.Set ws
 reading_by ws (Ok say.NoDate) = readings.Fault faults.NoDate
@@ -28,7 +28,7 @@ date_reading text = reading_by (members text) (read_date Unknown text)
 -- ---- dates of one day
 
 -- the date of one day that was read, or why no such date was read
-abbrev pub day_read : Result Written DateFault → Result WrittenDate DateFault
+abbrev pub day_read : Result TextReading DateFault → Result WrittenDate DateFault
 day_read (Ok (say.Date w)) = plain_day w
 day_read (Ok say.NoDate) = Err faults.NoDate
 day_read (Ok say.Set) = Err faults.NotOneDay

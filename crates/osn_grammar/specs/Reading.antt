@@ -13,7 +13,7 @@ use Rattle.osn_grammar.specs.declared.token.Token.{Token}
 use Rattle.osn_grammar.specs.declared.token.Token.TheVariants as token
 use Rattle.osn_written.specs.declared.written_date.DateFault.{DateFault}
 use Rattle.osn_written.specs.declared.written_date.DateFault.TheVariants as faults
-use Rattle.osn_grammar.specs.declared.written.DateOrder.{DateOrder}
+use Rattle.osn_grammar.specs.declared.text_reading.DateOrder.{DateOrder}
 use Rattle.osn_written.specs.declared.any_date.Extent.{Extent}
 use Rattle.osn_written.specs.declared.any_date.Extent.TheVariants as extent
 use Rattle.osn_written.specs.declared.any_date.Reckoning.{Reckoning}
@@ -21,8 +21,8 @@ use Rattle.osn_written.specs.declared.any_date.PartialDate.{PartialDate}
 use Rattle.osn_grammar.specs.declared.token.Years.{Years}
 use Rattle.osn_grammar.specs.declared.both_calendars.ReckonedDay.{ReckonedDay}
 use Rattle.osn_grammar.specs.declared.reading.ReckonedExtent.{ReckonedExtent}
-use Rattle.osn_grammar.specs.declared.written.Written.{Written}
-use Rattle.osn_grammar.specs.declared.written.Written.TheVariants as say
+use Rattle.osn_grammar.specs.declared.text_reading.TextReading.{TextReading}
+use Rattle.osn_grammar.specs.declared.text_reading.TextReading.TheVariants as say
 use Rattle.osn_written.specs.declared.any_date.AnyDate.{AnyDate}
 use Rattle.osn_grammar.specs.Feasts.{feast_in}
 use Rattle.osn_grammar.specs.Extent.{extent_of}
@@ -34,7 +34,7 @@ use Rattle.osn_grammar.specs.Sets.{inside_braces, inside_brackets, between_comma
 use Rattle.osn_grammar.specs.Sets.{dates_in_digits}
 use Rattle.osn_grammar.specs.Simple.{◌>>=◌, lacks_digit}
 use Rattle.osn_grammar.specs.BothCalendars.{day_by_both, named_day}
-use Rattle.osn_grammar.specs.DashedYears.{may_be_double, slashed}
+use Rattle.osn_grammar.specs.DashedYears.{may_be_double, with_slashes}
 use Rattle.osn_grammar.specs.PartRanges.{part_range}
 use Rattle.osn_grammar.specs.Period.{is_period, is_winter, period_in}
 use Rattle.osn_grammar.specs.OpenDigits.{open_in}
@@ -99,8 +99,8 @@ is_open_year _ = false
 
 -- ---- other forms
 
-abbrev pub reckoned : Option Reckoning → Extent → ReckonedExtent
-reckoned reckoning e = record { extent = e; reckoning = reckoning; is_part = false }
+abbrev pub extent_said : Option Reckoning → Extent → ReckonedExtent
+extent_said reckoning e = record { extent = e; reckoning = reckoning; is_part = false }
 
 -- a part of a time is approximate
 abbrev pub part_as_extent : Option Reckoning → Extent → ReckonedExtent
@@ -109,7 +109,7 @@ part_as_extent reckoning e = record { extent = e; reckoning = reckoning; is_part
 -- a day by both calendars is by the one whose date is sure. No calendar may be named beside it
 abbrev pub extent_by_both : Option Reckoning → DateFault → Result ReckonedDay DateFault
     → Result ReckonedExtent DateFault
-extent_by_both None fault (Ok d) = Ok (reckoned (Some d.reckoning) (extent.On d.date))
+extent_by_both None fault (Ok d) = Ok (extent_said (Some d.reckoning) (extent.On d.date))
 extent_by_both (Some r) fault (Ok d) = Err faults.NamedCalendar
 extent_by_both reckoning fault (Err faults.Malformed) = Err fault
 extent_by_both reckoning fault (Err other) = Err other
@@ -137,36 +137,39 @@ open_first None other = other
 abbrev pub extent_by : List Token → List Token → Option Reckoning → DateFault
     → Result Extent DateFault → Option Years → Option Extent → Result PartialDate DateFault
     → Result ReckonedExtent DateFault
-extent_by tokens timed reckoning fault (Ok e) years period roman = Ok (reckoned reckoning e)
-extent_by tokens timed reckoning fault (Err other) (Some years) period roman =
-    Ok (reckoned reckoning (range_of years))
-extent_by tokens timed reckoning fault (Err other) None (Some e) roman =
+extent_by tokens time_tokens reckoning fault (Ok e) years period roman =
+    Ok (extent_said reckoning e)
+extent_by tokens time_tokens reckoning fault (Err other) (Some years) period roman =
+    Ok (extent_said reckoning (range_of years))
+extent_by tokens time_tokens reckoning fault (Err other) None (Some e) roman =
     Ok (part_as_extent reckoning e)
-extent_by tokens timed reckoning fault (Err other) None None (Ok d) =
-    Ok (reckoned reckoning (extent.On d))
-extent_by tokens timed reckoning fault (Err other) None None (Err another) =
-    extent_by_both reckoning fault (day_by_both newest_rules tokens timed)
+extent_by tokens time_tokens reckoning fault (Err other) None None (Ok d) =
+    Ok (extent_said reckoning (extent.On d))
+extent_by tokens time_tokens reckoning fault (Err other) None None (Err another) =
+    extent_by_both reckoning fault (day_by_both newest_rules tokens time_tokens)
 
 -- what has none of the usual forms may be an estimated date, one with an open digit, a decade, a
 -- century, a part of a time, a day with a Roman numeral or a day by both calendars
 abbrev pub extent_otherwise : DateOrder → List Token → List Token → Option Reckoning → DateFault
     → Result ReckonedExtent DateFault
-extent_otherwise o tokens timed reckoning fault =
-    extent_by tokens timed reckoning fault
-    (open_first (open_in timed) (after_estimated o tokens timed))
-    (years_in timed) (period_in timed) (roman_date timed)
+extent_otherwise o tokens time_tokens reckoning fault =
+    extent_by tokens time_tokens reckoning fault
+    (open_first (open_in time_tokens) (after_estimated o tokens time_tokens))
+    (years_in time_tokens) (period_in time_tokens) (roman_date time_tokens)
 
 abbrev pub or_other : DateOrder → List Token → List Token → Option Reckoning
     → Result Extent DateFault → Result ReckonedExtent DateFault
-or_other o tokens timed reckoning (Ok e) = Ok (reckoned reckoning e)
-or_other o tokens timed reckoning (Err fault) = extent_otherwise o tokens timed reckoning fault
+or_other o tokens time_tokens reckoning (Ok e) = Ok (extent_said reckoning e)
+or_other o tokens time_tokens reckoning (Err fault) =
+    extent_otherwise o tokens time_tokens reckoning fault
 
 -- no two calendars may be named, unless they are beside the two dates of a day
 abbrev pub extent_in : DateOrder → List Token → List Token → Result (Option Reckoning) DateFault
     → Result ReckonedExtent DateFault
-extent_in o tokens timed (Ok reckoning) = or_other o tokens timed reckoning (extent_of o timed)
-extent_in o tokens timed (Err fault) =
-    extent_by_both None fault (named_day newest_rules tokens timed)
+extent_in o tokens time_tokens (Ok reckoning) =
+    or_other o tokens time_tokens reckoning (extent_of o time_tokens)
+extent_in o tokens time_tokens (Err fault) =
+    extent_by_both None fault (named_day newest_rules tokens time_tokens)
 
 -- a year of three digits may lack its last one, if it is in doubt or in brackets
 abbrev pub unless_open : AnyDate → Result AnyDate DateFault
@@ -176,9 +179,9 @@ unless_open w =
 
 -- a date, by all parts and by those that say which day is meant
 abbrev pub date_of : DateOrder → List Token → List Token → Result AnyDate DateFault
-date_of o tokens timed = do
+date_of o tokens time_tokens = do
   weekday ← weekday_after None tokens
-  time ← extent_in o tokens timed (reckoning_after None tokens)
+  time ← extent_in o tokens time_tokens (reckoning_after None tokens)
   unless_open (record {
     extent = time.extent;
     weekday = weekday;
@@ -205,21 +208,23 @@ abbrev pub ends_open : List Token → Bool
 ends_open tokens = nat_le 2 (length tokens) && is_open_end (drop (length tokens - 2) tokens)
 
 abbrev pub open_or : List Token → DateFault → DateFault
-open_or timed faults.Malformed = if ends_open timed then faults.OpenYear else faults.Malformed
-open_or timed fault = fault
+open_or time_tokens faults.Malformed =
+    if ends_open time_tokens then faults.OpenYear else faults.Malformed
+open_or time_tokens fault = fault
 
 -- why parts are not a date: a part of a time, a Roman numeral, a year with an open digit, or else
 -- the fault
 abbrev pub reason : List Token → List Token → DateFault → DateFault
-reason tokens timed fault =
-    if list_any is_period tokens || is_winter timed then faults.OpenPart
+reason tokens time_tokens fault =
+    if list_any is_period tokens || is_winter time_tokens then faults.OpenPart
     else (if list_any is_roman_numeral tokens then faults.RomanNumeral
     else (if list_any is_open_year tokens then faults.OpenYear
-    else open_or timed fault))
+    else open_or time_tokens fault))
 
-abbrev pub or_reason : List Token → List Token → Result AnyDate DateFault → Result Written DateFault
-or_reason tokens timed (Ok w) = Ok (say.Date w)
-or_reason tokens timed (Err fault) = Err (reason tokens timed fault)
+abbrev pub or_reason : List Token → List Token → Result AnyDate DateFault
+    → Result TextReading DateFault
+or_reason tokens time_tokens (Ok w) = Ok (say.Date w)
+or_reason tokens time_tokens (Err fault) = Err (reason tokens time_tokens fault)
 
 -- ---- a feast
 
@@ -236,23 +241,23 @@ with_its_signs tokens None e = unless_open (record {
 
 -- a feast in a year. Its weekday is part of its name, and no calendar may be named
 abbrev pub feast_of : List Token → List Token → Result AnyDate DateFault
-feast_of tokens timed = do
+feast_of tokens time_tokens = do
   weekday ← weekday_after None tokens
   reckoning ← reckoning_after None tokens
-  extent ← feast_in weekday timed
+  extent ← feast_in weekday time_tokens
   with_its_signs tokens reckoning extent
 
-abbrev pub as_date : Result AnyDate DateFault → Result Written DateFault
+abbrev pub as_date : Result AnyDate DateFault → Result TextReading DateFault
 as_date read = do
   w ← read
   Ok (say.Date w)
 
 -- a text of no parts has no date, and neither has one that is undated
-abbrev pub reading_of_tokens : DateOrder → List Token → List Token → Result Written DateFault
-reading_of_tokens o tokens timed =
-    if length tokens == 0 || is_undated timed then Ok say.NoDate
-    else (if list_any is_feast tokens then as_date (feast_of tokens timed)
-    else or_reason tokens timed (date_of o tokens timed))
+abbrev pub reading_of_tokens : DateOrder → List Token → List Token → Result TextReading DateFault
+reading_of_tokens o tokens time_tokens =
+    if length tokens == 0 || is_undated time_tokens then Ok say.NoDate
+    else (if list_any is_feast tokens then as_date (feast_of tokens time_tokens)
+    else or_reason tokens time_tokens (date_of o tokens time_tokens))
 
 -- ---- a set of dates
 
@@ -319,44 +324,46 @@ members text = unwrap_or (result_ok (set_or_list (set_in text) (list_in text))) 
 
 -- a text that says nothing else of a date may be a set. If it has the form of a set, the reason is
 -- that of its first member that is not a day
-abbrev pub or_set : Result (List AnyDate) DateFault → Result Written DateFault
-    → Result Written DateFault
+abbrev pub or_set : Result (List AnyDate) DateFault → Result TextReading DateFault
+    → Result TextReading DateFault
 or_set set (Ok w) = Ok w
 or_set (Ok ws) (Err fault) = Ok say.Set
 or_set (Err faults.Malformed) (Err fault) = Err fault
 or_set (Err reason) (Err fault) = Err reason
 
 -- a text that is nothing else may be years in digits and signs
-abbrev pub years_unless : Option AnyDate → Result Written DateFault → Result Written DateFault
+abbrev pub years_unless : Option AnyDate → Result TextReading DateFault
+    → Result TextReading DateFault
 years_unless years (Ok w) = Ok w
 years_unless (Some w) (Err fault) = Ok (say.Date w)
 years_unless None (Err fault) = Err fault
 
-abbrev pub or_years : List ℕ → Result Written DateFault → Result Written DateFault
+abbrev pub or_years : List ℕ → Result TextReading DateFault → Result TextReading DateFault
 or_years text read = years_unless (years_of_text text) read
 
 -- ---- last of all
 
 -- the first fault, unless another reading succeeds
-abbrev pub or_this : Result Written DateFault → DateFault → Result Written DateFault
+abbrev pub or_this : Result TextReading DateFault → DateFault → Result TextReading DateFault
 or_this (Ok w) fault = Ok w
 or_this (Err other) fault = Err fault
 
 -- a range of days after its month, May 3-10, 1640
 abbrev pub read_month_first : DateOrder → List Token → List Token → DateFault
-    → Result Written DateFault
-read_month_first o tokens timed fault =
-    if has_month_first timed then or_this (reading_of_tokens o tokens (month_moved timed)) fault
+    → Result TextReading DateFault
+read_month_first o tokens time_tokens fault =
+    if has_month_first time_tokens then or_this (reading_of_tokens o tokens
+    (month_moved time_tokens)) fault
     else Err fault
 
 -- a double year after a dash, 11 Feb. 1675-6. A range of days after its month is tried before that:
 -- February 3-10, 1675
 abbrev pub read_slashed : DateOrder → List Token → List Token → DateFault
-    → Result Written DateFault
-read_slashed o tokens timed fault =
-    if not (has_month_first timed) && may_be_double timed then
-    or_this (reading_of_tokens o tokens (slashed timed)) fault
-    else read_month_first o tokens timed fault
+    → Result TextReading DateFault
+read_slashed o tokens time_tokens fault =
+    if not (has_month_first time_tokens) && may_be_double time_tokens then
+    or_this (reading_of_tokens o tokens (with_slashes time_tokens)) fault
+    else read_month_first o tokens time_tokens fault
 
 -- from one part of a time to another one, early 1675 - late 1676
 abbrev pub of_parts : List Token → Option Weekday → Option Reckoning → Option Extent
@@ -372,21 +379,23 @@ of_parts tokens weekday reckoning (Some e) = unless_open (record {
 })
 
 abbrev pub date_of_parts : List Token → List Token → Result AnyDate DateFault
-date_of_parts tokens timed = do
+date_of_parts tokens time_tokens = do
   weekday ← weekday_after None tokens
   reckoning ← reckoning_after None tokens
-  of_parts tokens weekday reckoning (part_range timed)
+  of_parts tokens weekday reckoning (part_range time_tokens)
 
-abbrev pub read_parts : DateOrder → List Token → List Token → DateFault → Result Written DateFault
-read_parts o tokens timed fault =
-    if list_any is_period tokens then or_this (as_date (date_of_parts tokens timed)) fault
-    else read_slashed o tokens timed fault
+abbrev pub read_parts : DateOrder → List Token → List Token → DateFault
+    → Result TextReading DateFault
+read_parts o tokens time_tokens fault =
+    if list_any is_period tokens then or_this (as_date (date_of_parts tokens time_tokens)) fault
+    else read_slashed o tokens time_tokens fault
 
 -- INT 11 FEB 1675 (a phrase) is a date that was interpreted from the phrase
-abbrev pub interpreted : DateOrder → List Token → List Token → DateFault → Result Written DateFault
-interpreted o tokens (token.Interpreted ∷ timed) fault =
-    or_this (reading_of_tokens o tokens timed) fault
-interpreted o tokens timed fault = Err fault
+abbrev pub date_before_phrase : DateOrder → List Token → List Token → DateFault
+    → Result TextReading DateFault
+date_before_phrase o tokens (token.Interpreted ∷ time_tokens) fault =
+    or_this (reading_of_tokens o tokens time_tokens) fault
+date_before_phrase o tokens time_tokens fault = Err fault
 
 -- the phrase ends with its round bracket, and so does the text
 abbrev pub is_closed : Option (List ℕ × List ℕ) → Bool
@@ -394,31 +403,32 @@ is_closed None = false
 is_closed (Some parts) = length parts.1 == 0
 
 abbrev pub before_phrase : DateOrder → Option (List ℕ × List ℕ) → DateFault
-    → Result Written DateFault
+    → Result TextReading DateFault
 before_phrase o None fault = Err fault
 before_phrase o (Some parts) fault =
     if is_closed (parts_at 41 parts.1) then
-    interpreted o (tokens_in parts.0) (filter is_of_time (tokens_in parts.0)) fault
+    date_before_phrase o (tokens_in parts.0) (filter is_of_time (tokens_in parts.0)) fault
     else Err fault
 
-abbrev pub or_phrase : DateOrder → List ℕ → Result Written DateFault → Result Written DateFault
+abbrev pub or_phrase : DateOrder → List ℕ → Result TextReading DateFault
+    → Result TextReading DateFault
 or_phrase o text (Ok w) = Ok w
 or_phrase o text (Err fault) = before_phrase o (parts_at 40 text) fault
 
-abbrev pub or_parts : DateOrder → List Token → List Token → Result Written DateFault
-    → Result Written DateFault
-or_parts o tokens timed (Ok w) = Ok w
-or_parts o tokens timed (Err fault) = read_parts o tokens timed fault
+abbrev pub or_parts : DateOrder → List Token → List Token → Result TextReading DateFault
+    → Result TextReading DateFault
+or_parts o tokens time_tokens (Ok w) = Ok w
+or_parts o tokens time_tokens (Err fault) = read_parts o tokens time_tokens fault
 
 -- a text that is nothing else may be a list of dates
-abbrev pub or_list : Result (List AnyDate) DateFault → Result Written DateFault
-    → Result Written DateFault
+abbrev pub or_list : Result (List AnyDate) DateFault → Result TextReading DateFault
+    → Result TextReading DateFault
 or_list list (Ok w) = Ok w
 or_list (Ok ws) (Err fault) = Ok say.Set
 or_list (Err other) (Err fault) = Err fault
 
 -- what a text says of a date, or why it is not a date
-unfoldable pub read_date : DateOrder → List ℕ → Result Written DateFault
+unfoldable pub read_date : DateOrder → List ℕ → Result TextReading DateFault
 read_date o text =
     or_list (list_in text)
     (or_phrase o text

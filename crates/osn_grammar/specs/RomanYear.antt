@@ -35,14 +35,14 @@ abbrev pub first_value : List ℕ → ℕ
 first_value [] = 0
 first_value (c ∷ rest) = letter_value c
 
-abbrev pub added : ℕ → List ℕ → Option ℕ → Option ℕ
-added c rest None = None
-added c rest (Some n) = with_letter (letter_value c) (first_value rest) n
+abbrev pub sum_with : ℕ → List ℕ → Option ℕ → Option ℕ
+sum_with c rest None = None
+sum_with c rest (Some n) = with_letter (letter_value c) (first_value rest) n
 
 -- the value of a numeral
 abbrev pub roman_value : List ℕ → Option ℕ
 roman_value [] = Some 0
-roman_value (c ∷ rest) = added c rest (roman_value rest)
+roman_value (c ∷ rest) = sum_with c rest (roman_value rest)
 
 abbrev pub year_within : Option ℕ → Option ℕ
 year_within None = None

@@ -3,12 +3,12 @@ use Rattle.std.specs.Prelude.{◌≡◌, Bool, false, ℕ, List, ◌∷◌, ◌+
 use Rattle.std.specs.Prelude.{Ok}
 use Rattle.std.specs.List.{All, join_by}
 use Rattle.osn_days.specs.declared.date.Date.{Date}
-use Rattle.osn_grammar.specs.declared.written.DateOrder.{DateOrder}
+use Rattle.osn_grammar.specs.declared.text_reading.DateOrder.{DateOrder}
 use Rattle.osn_written.specs.declared.any_date.Extent.{Extent}
 use Rattle.osn_written.specs.declared.any_date.Extent.TheVariants as extent
-use Rattle.osn_grammar.specs.declared.written.Written.TheVariants as say
+use Rattle.osn_grammar.specs.declared.text_reading.TextReading.TheVariants as say
 use Rattle.osn_written.specs.declared.any_date.AnyDate.{AnyDate}
-use Rattle.osn_grammar.specs.InDigits.{HasFourDigits, day_of_date, signed}
+use Rattle.osn_grammar.specs.InDigits.{HasFourDigits, day_of_date, text_with_signs}
 use Rattle.osn_grammar.specs.Reading.{members, read_date}
 
 -- one day, or the first one and the last one
@@ -21,9 +21,10 @@ HaveFourDigits (d, Some e) = HasFourDigits d × HasFourDigits e
 
 -- 1731-02-11~, 1731-02-11~..1731-03-01~
 abbrev pub days_text : Bool → Bool → Days → List ℕ
-days_text approximate uncertain (d, None) = signed d approximate uncertain
+days_text approximate uncertain (d, None) = text_with_signs d approximate uncertain
 days_text approximate uncertain (d, Some e) =
-    signed d approximate uncertain ++ (codes ".." ++ signed e approximate uncertain)
+    text_with_signs d approximate uncertain ++ (codes ".."
+    ++ text_with_signs e approximate uncertain)
 
 -- the set of them: [1543-04-11,1544-04-11]
 abbrev pub set_text : Bool → Bool → List Days → List ℕ

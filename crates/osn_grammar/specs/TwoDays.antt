@@ -11,13 +11,13 @@ use Rattle.osn_written.specs.declared.written_date.DateFault.{DateFault}
 use Rattle.osn_written.specs.declared.written_date.DateFault.TheVariants as faults
 
 -- the date of these numbers, whether a calendar has it or not
-abbrev pub numbered : ℤ → MonthDay → Date
-numbered y d = record { year = y; month = d.month; day = d.day }
+abbrev pub date_in_year : ℤ → MonthDay → Date
+date_in_year y d = record { year = y; month = d.month; day = d.day }
 
 -- the date in another calendar of the day of the line that has a date in one
 abbrev pub dates_in_other : Rules → Calendar → Calendar → ℤ → MonthDay → List Date
 dates_in_other p own other y d =
-    map (date_of other) (days_with_date p own (numbered y d))
+    map (date_of other) (days_with_date p own (date_in_year y d))
 
 -- the Julian year of the first date is the Gregorian year of the second one, or the year before it
 -- if the first one is in a later month: 27 Dec. 1675/6 Jan. 1676

@@ -1,7 +1,7 @@
 -- Which dates are read back from their words. This project's profile.
 use Rattle.std.specs.Prelude.{◌≡◌, Bool, true, false, not, ◌&&◌, nat_le, Ok}
-use Rattle.osn_grammar.specs.declared.written.DateOrder.{DateOrder}
-use Rattle.osn_grammar.specs.declared.written.Written.TheVariants as say
+use Rattle.osn_grammar.specs.declared.text_reading.DateOrder.{DateOrder}
+use Rattle.osn_grammar.specs.declared.text_reading.TextReading.TheVariants as say
 use Rattle.osn_grammar.specs.Reading.{read_date}
 use Rattle.osn_grammar.specs.Simple.{is_between}
 use Rattle.osn_written.specs.declared.any_date.AnyDate.{AnyDate}

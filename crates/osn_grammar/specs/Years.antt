@@ -41,12 +41,12 @@ both_years (Some first) None = None
 both_years (Some first) (Some last) = Some (record { first = first.first; last = last.last })
 
 -- 1580s-1590s, 15th/16th century, 15th to 16th century, 15th or 16th century
-abbrev pub joined : Option Years → Token → Option Years → Option Years
-joined first Dash last = both_years first last
-joined first Slash last = both_years first last
-joined first To last = both_years first last
-joined first Or last = both_years first last
-joined first _ last = None
+abbrev pub join_years : Option Years → Token → Option Years → Option Years
+join_years first Dash last = both_years first last
+join_years first Slash last = both_years first last
+join_years first To last = both_years first last
+join_years first Or last = both_years first last
+join_years first _ last = None
 
 -- a decade, 158x, 1580s, or a century, 15xx, 16th century, XVIe siècle, sec. XVI
 abbrev pub one_in : List Token → Option Years
@@ -82,16 +82,16 @@ by_word _ = None
 
 -- two of them
 abbrev pub decades_in : List Token → Option Years
-decades_in (token.Years first ∷ p ∷ token.Years last ∷ []) = joined (Some first) p (Some last)
+decades_in (token.Years first ∷ p ∷ token.Years last ∷ []) = join_years (Some first) p (Some last)
 decades_in _ = None
 
 abbrev pub centuries_in : List Token → Option Years
 centuries_in (Number first ∷ p ∷ Number last ∷ Century ∷ []) =
-    joined (century first.value) p (century last.value)
+    join_years (century first.value) p (century last.value)
 centuries_in _ = None
 
 abbrev pub roman_years : ℕ → Token → ℕ → Option Years
-roman_years first p last = joined (century first) p (century last)
+roman_years first p last = join_years (century first) p (century last)
 
 abbrev pub roman_centuries_in : List Token → Option Years
 roman_centuries_in (Roman first ∷ p ∷ Roman last ∷ Century ∷ []) = roman_years first p last
@@ -143,18 +143,18 @@ open_years supplied (a ∷ b ∷ c ∷ d ∷ e ∷ f ∷ []) =
 open_years supplied _ = None
 
 -- 16th c.
-abbrev pub numbered : ℕ → ℕ → Option Years
-numbered a b = if are_two_digits a b then century (10 * digit a + digit b) else None
+abbrev pub years_by : ℕ → ℕ → Option Years
+years_by a b = if are_two_digits a b then century (10 * digit a + digit b) else None
 
-abbrev pub is_th_c : ℕ → ℕ → ℕ → ℕ → Bool
-is_th_c t h s c =
+abbrev pub is_ordinal : ℕ → ℕ → ℕ → ℕ → Bool
+is_ordinal t h s c =
     (t == 116 || t == 84) && ((h == 104 || h == 72) && (s == 32 && (c == 99 || c == 67)))
 
 abbrev pub century_by_letter : List ℕ → Option Years
 century_by_letter (a ∷ b ∷ t ∷ h ∷ s ∷ c ∷ []) =
-    if is_th_c t h s c then numbered a b else None
+    if is_ordinal t h s c then years_by a b else None
 century_by_letter (a ∷ b ∷ t ∷ h ∷ s ∷ c ∷ stop ∷ []) =
-    if is_th_c t h s c && stop == 46 then numbered a b else None
+    if is_ordinal t h s c && stop == 46 then years_by a b else None
 century_by_letter _ = None
 
 abbrev pub date_or : Option AnyDate → Option AnyDate → Option AnyDate

@@ -105,7 +105,7 @@ fn are_one_day(year: Year, dates: TwoDates) -> bool
 }
 
 /// Returns a day of a year by one of the calendars.
-fn reckoned(year: Year, day: MonthDay, reckoning: Reckoning) -> ReckonedDay
+fn reckoned_day(year: Year, day: MonthDay, reckoning: Reckoning) -> ReckonedDay
     ensures { result ≡ spec.reckoned_day year day reckoning }
 {
     ReckonedDay {
@@ -127,7 +127,7 @@ fn in_own_year(dates: TwoDates, year: Year) -> Result<ReckonedDay, DateFault>
     let is_own = are_one_day(year, dates);
     let is_next = are_one_day(later_of(year), dates);
     if is_own && is_next {
-        Ok(reckoned(year, dates.old, Reckoning::OldStyle))
+        Ok(reckoned_day(year, dates.old, Reckoning::OldStyle))
     } else if is_own || is_next {
         Err(DateFault::BothCalendars)
     } else {
@@ -162,7 +162,7 @@ fn day_of_both(dates: TwoDates) -> Result<ReckonedDay, DateFault>
 {
     match gregorian_year(dates) {
         Some(year) if are_one_day(year, dates) => {
-            Ok(reckoned(year, dates.new, Reckoning::NewStyle))
+            Ok(reckoned_day(year, dates.new, Reckoning::NewStyle))
         }
         Some(year) => Err(two_days(year.first, dates.old, dates.new)),
         None => day_of_own_year(dates),
@@ -170,11 +170,11 @@ fn day_of_both(dates: TwoDates) -> Result<ReckonedDay, DateFault>
 }
 
 /// Returns the date of the day that parts are by both calendars, or why it is not sure. Parts of
-/// another form are `Malformed`. The parts `timed` are those that say which day is meant.
-pub fn day_by_both(tokens: &[Token], timed: &[Token]) -> Result<ReckonedDay, DateFault>
-    ensures { result ≡ spec.day_by_both newest_rules tokens.now timed.now }
+/// another form are `Malformed`. The parts `time_tokens` are those that say which day is meant.
+pub fn day_by_both(tokens: &[Token], time_tokens: &[Token]) -> Result<ReckonedDay, DateFault>
+    ensures { result ≡ spec.day_by_both newest_rules tokens.now time_tokens.now }
 {
-    match dates_in(tokens, timed) {
+    match dates_in(tokens, time_tokens) {
         Some(dates) => day_of_both(dates),
         None => Err(DateFault::Malformed),
     }
@@ -182,11 +182,11 @@ pub fn day_by_both(tokens: &[Token], timed: &[Token]) -> Result<ReckonedDay, Dat
 
 /// Returns the date of the day that parts are by both calendars, each of which is named beside its
 /// date: `3 June O.S./13 June N.S. 1675`.
-pub fn named_day(tokens: &[Token], timed: &[Token]) -> Result<ReckonedDay, DateFault>
-    ensures { result ≡ spec.named_day newest_rules tokens.now timed.now }
+pub fn named_day(tokens: &[Token], time_tokens: &[Token]) -> Result<ReckonedDay, DateFault>
+    ensures { result ≡ spec.named_day newest_rules tokens.now time_tokens.now }
 {
     if are_named(tokens) {
-        day_by_both(tokens, timed)
+        day_by_both(tokens, time_tokens)
     } else {
         Err(DateFault::Malformed)
     }

@@ -79,8 +79,8 @@ fn push_slashed(
 }
 
 /// Returns the parts with a `/` for the dash of each double year.
-pub fn slashed(alloc: Global, tokens: &[Token]) -> Result<Vec<Token>, AllocError>
-    ensures { IfOk result (λ slashed. slashed.items ≡ spec.slashed tokens.now) }
+pub fn with_slashes(alloc: Global, tokens: &[Token]) -> Result<Vec<Token>, AllocError>
+    ensures { IfOk result (λ slashed. slashed.items ≡ spec.with_slashes tokens.now) }
 {
     let mut slashed = Vec::new(alloc);
     let mut earlier: Option<Token> = None;

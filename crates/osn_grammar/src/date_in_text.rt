@@ -8,7 +8,7 @@ ghost use Rattle.osn_grammar.specs.ReadDate as spec;
 
 use crate::reading::read_date;
 use crate::set::members_of;
-use crate::written::{DateOrder, Written};
+use crate::text_reading::{DateOrder, TextReading};
 use osn_written::{DateFault, DateReading, Listing, WrittenDate, plain_day};
 use std::alloc::{AllocError, Global};
 
@@ -23,21 +23,21 @@ pub fn date_reading(alloc: Global, text: &str) -> Result<DateReading, AllocError
     ensures { IfOk result (λ date. date ≡ spec.date_reading text.now) }
 {
     match read_date(alloc, text, DateOrder::Unknown)? {
-        Ok(Written::Date(date)) => Ok(DateReading::Date(date)),
-        Ok(Written::Set) => Ok(DateReading::Set(Listing::new(members_of(alloc, text)?))),
-        Ok(Written::NoDate) => Ok(DateReading::Fault(DateFault::NoDate)),
+        Ok(TextReading::Date(date)) => Ok(DateReading::Date(date)),
+        Ok(TextReading::Set) => Ok(DateReading::Set(Listing::new(members_of(alloc, text)?))),
+        Ok(TextReading::NoDate) => Ok(DateReading::Fault(DateFault::NoDate)),
         Err(fault) => Ok(DateReading::Fault(fault)),
     }
 }
 
 /// Returns the date of one day that was read, or why no such date was read.
-fn day_read(read: Result<Written, DateFault>) -> Result<WrittenDate, DateFault>
+fn day_read(read: Result<TextReading, DateFault>) -> Result<WrittenDate, DateFault>
     ensures { result ≡ spec.day_read read }
 {
     match read {
-        Ok(Written::Date(date)) => plain_day(date),
-        Ok(Written::NoDate) => Err(DateFault::NoDate),
-        Ok(Written::Set) => Err(DateFault::NotOneDay),
+        Ok(TextReading::Date(date)) => plain_day(date),
+        Ok(TextReading::NoDate) => Err(DateFault::NoDate),
+        Ok(TextReading::Set) => Err(DateFault::NotOneDay),
         Err(fault) => Err(fault),
     }
 }

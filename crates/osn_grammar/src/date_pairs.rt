@@ -240,9 +240,12 @@ fn slashed_dates(tokens: &[Token]) -> Option<TwoDates>
 }
 
 /// Returns the two dates that parts are, if they are two with a `/` between them or with the second
-/// one in round brackets. The parts `timed` are those that say which day is meant.
-pub fn dates_in(tokens: &[Token], timed: &[Token]) -> Option<TwoDates>
-    ensures { result ≡ spec.dates_in tokens.now timed.now }
+/// one in round brackets. The parts `time_tokens` are those that say which day is meant.
+pub fn dates_in(tokens: &[Token], time_tokens: &[Token]) -> Option<TwoDates>
+    ensures { result ≡ spec.dates_in tokens.now time_tokens.now }
 {
-    or_dates(slashed_dates(timed), if_round(tokens, beside(timed)))
+    or_dates(
+        slashed_dates(time_tokens),
+        if_round(tokens, beside(time_tokens)),
+    )
 }

@@ -4,12 +4,12 @@ ghost use Rattle.osn_grammar.specs.Extent as spec;
 
 use crate::forms::{date_in_digits, partial_date};
 use crate::simple::{day_in, is_long, month_in};
+use crate::text_reading::DateOrder;
 use crate::token::Numeral;
 use crate::token::Token::{
     self, After, And, Before, Between, By, Dash, Dot, Earlier, From, Later, Month, No, Not, Number,
     Open, Or, Slash, Than, To, ToThe,
 };
-use crate::written::DateOrder;
 use osn_written::{DateFault, Extent, MonthDay, PartialDate, Year};
 
 /// By which parts the two dates of a range are joined.
@@ -286,14 +286,14 @@ fn dashed_range(order: DateOrder, first: &[Token], last: &[Token]) -> Result<Ext
 }
 
 /// Returns the range that a part joins, if it is one that joins.
-fn joined(
+fn join_dates(
     order: DateOrder,
     joining: Joining,
     first: &[Token],
     token: Token,
     last: &[Token],
 ) -> Result<Extent, DateFault>
-    ensures { result ≡ spec.joined order joining first.now token last.now }
+    ensures { result ≡ spec.join_dates order joining first.now token last.now }
 {
     match (joining, token) {
         (Joining::Any, Slash) => slashed_range(order, first, last),
@@ -330,7 +330,7 @@ fn range_in(order: DateOrder, joining: Joining, tokens: &[Token]) -> Result<Exte
         place -= 1;
         let last = &tokens[place + 1..];
         read = first_read(
-            joined(order, joining, &tokens[..place], tokens[place], last),
+            join_dates(order, joining, &tokens[..place], tokens[place], last),
             read,
         );
     }

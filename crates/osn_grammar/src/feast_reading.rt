@@ -49,11 +49,11 @@ fn with_its_signs(
 }
 
 /// Returns the feast that parts are, or why they are not one. Its weekday is part of its name.
-pub fn feast_of(tokens: &[Token], timed: &[Token]) -> Result<AnyDate, DateFault>
-    ensures { result ≡ spec.feast_of tokens.now timed.now }
+pub fn feast_of(tokens: &[Token], time_tokens: &[Token]) -> Result<AnyDate, DateFault>
+    ensures { result ≡ spec.feast_of tokens.now time_tokens.now }
 {
     let weekday = weekday_of(tokens)?;
     let reckoning = reckoning_of(tokens)?;
-    let extent = feast_in(weekday, timed)?;
+    let extent = feast_in(weekday, time_tokens)?;
     with_its_signs(tokens, reckoning, extent)
 }

@@ -181,10 +181,10 @@ fn after_word(
 
 /// Returns the feast in a year that parts are, with the weekday that is named. The parts are those
 /// that say which day is meant.
-pub fn feast_in(weekday: Option<Weekday>, timed: &[Token]) -> Result<Extent, DateFault>
-    ensures { result ≡ spec.feast_in weekday timed.now }
+pub fn feast_in(weekday: Option<Weekday>, time_tokens: &[Token]) -> Result<Extent, DateFault>
+    ensures { result ≡ spec.feast_in weekday time_tokens.now }
 {
-    match timed {
+    match time_tokens {
         [Token::Feast(first), rest @ ..] => after_word(*first, weekday, rest),
         [Token::Number(year), Token::Feast(first)] => {
             in_year(feast_by(*first, weekday), Some(one(*year)))

@@ -7,9 +7,9 @@ use crate::simple::{
     month_in_digits, month_of, month_or_double_year, one, three_numbers, two, whole_year,
     year_and_day, year_and_month, year_and_name, year_last,
 };
+use crate::text_reading::DateOrder;
 use crate::token::Numeral;
 use crate::token::Token::{self, Blank, Dash, Dot, Month, Number, Slash};
-use crate::written::DateOrder;
 use osn_written::{DateFault, PartialDate};
 
 /// Returns the numbers of a year that parts are: one, or two with a `/` between them.

@@ -28,14 +28,14 @@ mod scan;
 mod set;
 mod signs;
 mod simple;
+mod text_reading;
 mod token;
 mod two_days;
 mod words_read;
-mod written;
 mod years;
 
 pub use date_in_text::{date_reading, parse_day};
 pub use reading::read_date;
 pub use set::members_of;
+pub use text_reading::{DateOrder, TextReading};
 pub use words_read::is_writable;
-pub use written::{DateOrder, Written};

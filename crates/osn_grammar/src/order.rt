@@ -2,7 +2,7 @@
 ghost use Rattle.std.specs.Prelude.{◌≡◌};
 ghost use Rattle.osn_grammar.specs.Simple as spec;
 
-use crate::written::DateOrder;
+use crate::text_reading::DateOrder;
 
 /// Returns whether a number is that of a month.
 pub fn is_month(number: u32) -> bool

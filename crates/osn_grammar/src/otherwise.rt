@@ -6,7 +6,7 @@ ghost use Rattle.osn_grammar.specs.Scan as scan;
 ghost use Rattle.osn_grammar.specs.Tokens.{is_of_time};
 ghost use Rattle.osn_written.specs.WrittenDate.{parts_at as parts_of};
 
-use crate::dashed_years::{may_be_double, slashed};
+use crate::dashed_years::{may_be_double, with_slashes};
 use crate::month_first::{has_month_first, month_moved};
 use crate::part_ranges::part_range;
 use crate::period::has_period;
@@ -14,14 +14,14 @@ use crate::reading::{reading_of_tokens, unless_open};
 use crate::scan::tokens_in;
 use crate::set::list_in;
 use crate::signs::{is_supplied, is_uncertain, reckoning_of, weekday_of};
+use crate::text_reading::{DateOrder, TextReading};
 use crate::token::Token;
-use crate::written::{DateOrder, Written};
 use osn_days::Weekday;
 use osn_written::{AnyDate, DateFault, Extent, Reckoning, parts_at};
 use std::alloc::{AllocError, Global};
 
 /// What a text says of a date, or why it is not a date.
-type Read = Result<Written, DateFault>;
+type Read = Result<TextReading, DateFault>;
 
 /// Returns a reading, or else the first fault.
 fn or_this(read: Read, fault: DateFault) -> Read
@@ -38,15 +38,16 @@ fn read_month_first(
     alloc: Global,
     order: DateOrder,
     tokens: &[Token],
-    timed: &[Token],
+    time_tokens: &[Token],
     fault: DateFault,
 ) -> Result<Read, AllocError>
-    ensures { IfOk result (λ read. read ≡ spec.read_month_first order tokens.now timed.now fault) }
+    ensures { IfOk result (λ read.
+        read ≡ spec.read_month_first order tokens.now time_tokens.now fault) }
 {
-    if !has_month_first(timed) {
+    if !has_month_first(time_tokens) {
         return Ok(Err(fault));
     }
-    let moved = month_moved(alloc, timed)?;
+    let moved = month_moved(alloc, time_tokens)?;
     Ok(or_this(reading_of_tokens(order, tokens, moved.as_slice()), fault))
 }
 
@@ -56,15 +57,16 @@ fn read_slashed(
     alloc: Global,
     order: DateOrder,
     tokens: &[Token],
-    timed: &[Token],
+    time_tokens: &[Token],
     fault: DateFault,
 ) -> Result<Read, AllocError>
-    ensures { IfOk result (λ read. read ≡ spec.read_slashed order tokens.now timed.now fault) }
+    ensures { IfOk result (λ read.
+        read ≡ spec.read_slashed order tokens.now time_tokens.now fault) }
 {
-    if has_month_first(timed) || !may_be_double(timed) {
-        return read_month_first(alloc, order, tokens, timed, fault);
+    if has_month_first(time_tokens) || !may_be_double(time_tokens) {
+        return read_month_first(alloc, order, tokens, time_tokens, fault);
     }
-    let slashed = slashed(alloc, timed)?;
+    let slashed = with_slashes(alloc, time_tokens)?;
     Ok(or_this(reading_of_tokens(order, tokens, slashed.as_slice()), fault))
 }
 
@@ -91,19 +93,19 @@ fn of_parts(
 }
 
 /// Returns the date that parts are, from one part of a time to another one.
-fn date_of_parts(tokens: &[Token], timed: &[Token]) -> Result<AnyDate, DateFault>
-    ensures { result ≡ spec.date_of_parts tokens.now timed.now }
+fn date_of_parts(tokens: &[Token], time_tokens: &[Token]) -> Result<AnyDate, DateFault>
+    ensures { result ≡ spec.date_of_parts tokens.now time_tokens.now }
 {
     let weekday = weekday_of(tokens)?;
     let reckoning = reckoning_of(tokens)?;
-    of_parts(tokens, weekday, reckoning, part_range(timed))
+    of_parts(tokens, weekday, reckoning, part_range(time_tokens))
 }
 
 /// Returns a date as what a text says.
 fn as_date(read: Result<AnyDate, DateFault>) -> Read
     ensures { result ≡ spec.as_date read }
 {
-    Ok(Written::Date(read?))
+    Ok(TextReading::Date(read?))
 }
 
 /// Returns the range of parts of a time, or the date with a double year after a dash, that parts
@@ -112,25 +114,30 @@ fn read_parts(
     alloc: Global,
     order: DateOrder,
     tokens: &[Token],
-    timed: &[Token],
+    time_tokens: &[Token],
     fault: DateFault,
 ) -> Result<Read, AllocError>
-    ensures { IfOk result (λ read. read ≡ spec.read_parts order tokens.now timed.now fault) }
+    ensures { IfOk result (λ read. read ≡ spec.read_parts order tokens.now time_tokens.now fault) }
 {
     if has_period(tokens) {
-        Ok(or_this(as_date(date_of_parts(tokens, timed)), fault))
+        Ok(or_this(as_date(date_of_parts(tokens, time_tokens)), fault))
     } else {
-        read_slashed(alloc, order, tokens, timed, fault)
+        read_slashed(alloc, order, tokens, time_tokens, fault)
     }
 }
 
 /// Returns the date that parts say after `int`, or else the fault.
-fn interpreted(order: DateOrder, tokens: &[Token], timed: &[Token], fault: DateFault) -> Read
-    ensures { result ≡ spec.interpreted order tokens.now timed.now fault }
+fn date_before_phrase(
+    order: DateOrder,
+    tokens: &[Token],
+    time_tokens: &[Token],
+    fault: DateFault,
+) -> Read
+    ensures { result ≡ spec.date_before_phrase order tokens.now time_tokens.now fault }
 {
-    match timed {
-        [Token::Interpreted, timed @ ..] => {
-            or_this(reading_of_tokens(order, tokens, timed), fault)
+    match time_tokens {
+        [Token::Interpreted, time_tokens @ ..] => {
+            or_this(reading_of_tokens(order, tokens, time_tokens), fault)
         }
         _ => Err(fault),
     }
@@ -143,16 +150,16 @@ fn read_before(
     text: &str,
     fault: DateFault,
 ) -> Result<Read, AllocError>
-    ensures { IfOk result (λ read. read ≡ spec.interpreted order (scan.tokens_in text.now)
+    ensures { IfOk result (λ read. read ≡ spec.date_before_phrase order (scan.tokens_in text.now)
         (filter is_of_time (scan.tokens_in text.now)) fault) }
 {
     let tokens = tokens_in(alloc, text)?;
-    let timed: Vec<Token> = tokens
+    let time_tokens: Vec<Token> = tokens
         .iter()
         .copied()
         .filter(|token| token.is_of_time())
         .collect(alloc)?;
-    Ok(interpreted(order, tokens.as_slice(), timed.as_slice(), fault))
+    Ok(date_before_phrase(order, tokens.as_slice(), time_tokens.as_slice(), fault))
 }
 
 /// Returns that a text is a list of dates, or else the fault.
@@ -160,7 +167,7 @@ fn read_list(alloc: Global, text: &str, fault: DateFault) -> Result<Read, AllocE
     ensures { IfOk result (λ read. read ≡ spec.or_list (spec.list_in text.now) (Err fault)) }
 {
     match list_in(alloc, text)? {
-        Ok(_) => Ok(Ok(Written::Set)),
+        Ok(_) => Ok(Ok(TextReading::Set)),
         Err(_) => Ok(Err(fault)),
     }
 }
@@ -207,15 +214,15 @@ fn or_parts(
     alloc: Global,
     order: DateOrder,
     tokens: &[Token],
-    timed: &[Token],
+    time_tokens: &[Token],
     read: Read,
 ) -> Result<Read, AllocError>
     ensures { IfOk result (λ found.
-        found ≡ spec.or_parts order tokens.now timed.now read) }
+        found ≡ spec.or_parts order tokens.now time_tokens.now read) }
 {
     match read {
         Ok(written) => Ok(Ok(written)),
-        Err(fault) => read_parts(alloc, order, tokens, timed, fault),
+        Err(fault) => read_parts(alloc, order, tokens, time_tokens, fault),
     }
 }
 
@@ -235,13 +242,13 @@ pub fn or_other_form(
     order: DateOrder,
     text: &str,
     tokens: &[Token],
-    timed: &[Token],
+    time_tokens: &[Token],
     read: Read,
 ) -> Result<Read, AllocError>
     ensures { IfOk result (λ found. found ≡ spec.or_list (spec.list_in text.now)
-        (spec.or_phrase order text.now (spec.or_parts order tokens.now timed.now read))) }
+        (spec.or_phrase order text.now (spec.or_parts order tokens.now time_tokens.now read))) }
 {
-    let read = or_parts(alloc, order, tokens, timed, read)?;
+    let read = or_parts(alloc, order, tokens, time_tokens, read)?;
     let read = or_phrase(alloc, order, text, read)?;
     or_list(alloc, text, read)
 }

@@ -41,8 +41,8 @@ fn year_in(date: PartialDate) -> Year
 }
 
 /// Returns the part of a year that parts are which lack the year.
-fn lacking(year: Year, tokens: &[Token]) -> Option<Extent>
-    ensures { result ≡ spec.lacking year tokens.now }
+fn part_without_year(year: Year, tokens: &[Token]) -> Option<Extent>
+    ensures { result ≡ spec.part_without_year year tokens.now }
 {
     match tokens {
         [Token::Portion(portion), Token::Month(month)] => {
@@ -68,13 +68,13 @@ fn range_to(first: &[Token], last: Option<PartialDate>) -> Option<Extent>
     ensures { result ≡ spec.range_to first.now last }
 {
     let last = last?;
-    let first = or_lacking(period_in(first), lacking(year_in(last), first));
+    let first = or_lacking(period_in(first), part_without_year(year_in(last), first));
     Some(Extent::FromTo(start_in(first)?, last))
 }
 
 /// Returns the range that a part joins, if it is one that joins.
-fn joined(first: &[Token], token: Token, last: &[Token]) -> Option<Extent>
-    ensures { result ≡ spec.joined first.now token last.now }
+fn join_parts(first: &[Token], token: Token, last: &[Token]) -> Option<Extent>
+    ensures { result ≡ spec.join_parts first.now token last.now }
 {
     match token {
         Token::To | Token::Or | Token::Dash | Token::ToThe => {
@@ -93,7 +93,7 @@ pub fn part_range(tokens: &[Token]) -> Option<Extent>
     while place > 0 {
         place -= 1;
         let last = &tokens[place + 1..];
-        found = or_lacking(joined(&tokens[..place], tokens[place], last), found);
+        found = or_lacking(join_parts(&tokens[..place], tokens[place], last), found);
     }
     found
 }

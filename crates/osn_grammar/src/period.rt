@@ -175,8 +175,8 @@ fn month_by_code(code: u32) -> Option<u8>
 
 /// Returns the season or the quarter of a code of two digits after its year. If the code may be the
 /// last digits of a later year, as in `1521-33`, it is not sure.
-fn coded(year: Numeral, code: Numeral) -> Option<Extent>
-    ensures { result ≡ spec.coded year code }
+fn part_of_code(year: Numeral, code: Numeral) -> Option<Extent>
+    ensures { result ≡ spec.part_of_code year code }
 {
     match month_by_code(code.value) {
         Some(first) if year.digits == 4 && code.digits == 2 && code.value <= year.value % 100 => {
@@ -212,7 +212,7 @@ fn after_number(number: Numeral, rest: &[Token]) -> Option<Extent>
     ensures { result ≡ spec.after_number number rest.now }
 {
     match rest {
-        [Dash, Number(code)] => coded(number, *code),
+        [Dash, Number(code)] => part_of_code(number, *code),
         [Token::Portion(portion)] => part_of_date(*portion, whole_year(one(number))),
         [Season(first)] => season_of(*first, number),
         [Fraction(share), whole @ ..] => nth_part(nth_of(number.value), *share, whole),

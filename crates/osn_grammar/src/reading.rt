@@ -19,8 +19,8 @@ use crate::scan::tokens_in;
 use crate::set::set_in;
 use crate::signs::{is_approximate, is_supplied, is_uncertain, reckoning_of, weekday_of};
 use crate::simple::lacks_digit;
+use crate::text_reading::{DateOrder, TextReading};
 use crate::token::Token;
-use crate::written::{DateOrder, Written};
 use crate::years::{has_open_year, range_of, years_in, years_of_text};
 use osn_written::{AnyDate, DateFault, Extent, Reckoning};
 use std::alloc::{AllocError, Global};
@@ -36,7 +36,7 @@ struct ReckonedExtent {
 
 /// Returns the extent of a date that is written in a usual form, with the calendar that it names.
 fn plain(extent: Extent, reckoning: Option<Reckoning>) -> ReckonedExtent
-    ensures { result ≡ spec.reckoned reckoning extent }
+    ensures { result ≡ spec.extent_said reckoning extent }
 {
     ReckonedExtent {
         extent,
@@ -76,10 +76,14 @@ fn begin_with_number(tokens: &[Token]) -> bool
 }
 
 /// Returns what comes after `est` or `cal`, if a text begins with it and a number comes next.
-fn after_estimated(order: DateOrder, tokens: &[Token], timed: &[Token]) -> Result<Extent, DateFault>
-    ensures { result ≡ spec.after_estimated order tokens.now timed.now }
+fn after_estimated(
+    order: DateOrder,
+    tokens: &[Token],
+    time_tokens: &[Token],
+) -> Result<Extent, DateFault>
+    ensures { result ≡ spec.after_estimated order tokens.now time_tokens.now }
 {
-    match timed {
+    match time_tokens {
         [Token::Estimated, date @ ..] if begin_estimated(tokens) && begin_with_number(date) => {
             extent_of(order, date)
         }
@@ -92,31 +96,31 @@ fn after_estimated(order: DateOrder, tokens: &[Token], timed: &[Token]) -> Resul
 fn extent_otherwise(
     order: DateOrder,
     tokens: &[Token],
-    timed: &[Token],
+    time_tokens: &[Token],
     reckoning: Option<Reckoning>,
     fault: DateFault,
 ) -> Result<ReckonedExtent, DateFault>
-    ensures { result ≡ spec.extent_otherwise order tokens.now timed.now reckoning fault }
+    ensures { result ≡ spec.extent_otherwise order tokens.now time_tokens.now reckoning fault }
 {
-    if let Some(extent) = open_in(timed) {
+    if let Some(extent) = open_in(time_tokens) {
         return Ok(plain(extent, reckoning));
     }
-    if let Ok(extent) = after_estimated(order, tokens, timed) {
+    if let Ok(extent) = after_estimated(order, tokens, time_tokens) {
         return Ok(plain(extent, reckoning));
     }
-    if let Some(years) = years_in(timed) {
+    if let Some(years) = years_in(time_tokens) {
         return Ok(plain(range_of(years), reckoning));
     }
-    if let Some(extent) = period_in(timed) {
+    if let Some(extent) = period_in(time_tokens) {
         return Ok(ReckonedExtent {
             extent,
             reckoning,
             is_part: true,
         });
     }
-    match roman_date(timed) {
+    match roman_date(time_tokens) {
         Ok(date) => Ok(plain(Extent::On(date), reckoning)),
-        Err(_) => extent_by_both(reckoning, fault, day_by_both(tokens, timed)),
+        Err(_) => extent_by_both(reckoning, fault, day_by_both(tokens, time_tokens)),
     }
 }
 
@@ -124,15 +128,15 @@ fn extent_otherwise(
 fn or_other(
     order: DateOrder,
     tokens: &[Token],
-    timed: &[Token],
+    time_tokens: &[Token],
     reckoning: Option<Reckoning>,
     read: Result<Extent, DateFault>,
 ) -> Result<ReckonedExtent, DateFault>
-    ensures { result ≡ spec.or_other order tokens.now timed.now reckoning read }
+    ensures { result ≡ spec.or_other order tokens.now time_tokens.now reckoning read }
 {
     match read {
         Ok(extent) => Ok(plain(extent, reckoning)),
-        Err(fault) => extent_otherwise(order, tokens, timed, reckoning, fault),
+        Err(fault) => extent_otherwise(order, tokens, time_tokens, reckoning, fault),
     }
 }
 
@@ -140,14 +144,20 @@ fn or_other(
 fn extent_in(
     order: DateOrder,
     tokens: &[Token],
-    timed: &[Token],
+    time_tokens: &[Token],
     named: Result<Option<Reckoning>, DateFault>,
 ) -> Result<ReckonedExtent, DateFault>
-    ensures { result ≡ spec.extent_in order tokens.now timed.now named }
+    ensures { result ≡ spec.extent_in order tokens.now time_tokens.now named }
 {
     match named {
-        Ok(reckoning) => or_other(order, tokens, timed, reckoning, extent_of(order, timed)),
-        Err(fault) => extent_by_both(None, fault, named_day(tokens, timed)),
+        Ok(reckoning) => or_other(
+            order,
+            tokens,
+            time_tokens,
+            reckoning,
+            extent_of(order, time_tokens),
+        ),
+        Err(fault) => extent_by_both(None, fault, named_day(tokens, time_tokens)),
     }
 }
 
@@ -163,12 +173,12 @@ pub fn unless_open(date: AnyDate) -> Result<AnyDate, DateFault>
     }
 }
 
-/// Returns the date that parts say. The parts `timed` are those that say which day is meant.
-fn date_of(order: DateOrder, tokens: &[Token], timed: &[Token]) -> Result<AnyDate, DateFault>
-    ensures { result ≡ spec.date_of order tokens.now timed.now }
+/// Returns the date that parts say. The parts `time_tokens` are those that say which day is meant.
+fn date_of(order: DateOrder, tokens: &[Token], time_tokens: &[Token]) -> Result<AnyDate, DateFault>
+    ensures { result ≡ spec.date_of order tokens.now time_tokens.now }
 {
     let weekday = weekday_of(tokens)?;
-    let reckoned = extent_in(order, tokens, timed, reckoning_of(tokens))?;
+    let reckoned = extent_in(order, tokens, time_tokens, reckoning_of(tokens))?;
     unless_open(AnyDate {
         extent: reckoned.extent,
         weekday,
@@ -180,84 +190,84 @@ fn date_of(order: DateOrder, tokens: &[Token], timed: &[Token]) -> Result<AnyDat
 }
 
 /// Returns whether parts are a year of three digits with a dash or two full stops after it.
-fn is_open_end(timed: &[Token]) -> bool
-    ensures { result ≡ spec.is_open_end timed.now }
+fn is_open_end(time_tokens: &[Token]) -> bool
+    ensures { result ≡ spec.is_open_end time_tokens.now }
 {
-    match timed {
+    match time_tokens {
         [Token::Number(year), Token::Dash | Token::Open] => lacks_digit(*year),
         _ => false,
     }
 }
 
 /// Returns whether parts end with a year of three digits and a dash or two full stops after it.
-fn ends_open(timed: &[Token]) -> bool
-    ensures { result ≡ spec.ends_open timed.now }
+fn ends_open(time_tokens: &[Token]) -> bool
+    ensures { result ≡ spec.ends_open time_tokens.now }
 {
-    timed.len() >= 2 && is_open_end(&timed[timed.len() - 2..])
+    time_tokens.len() >= 2 && is_open_end(&time_tokens[time_tokens.len() - 2..])
 }
 
 /// Returns the fault of parts, or that of a year with an open digit if they end with one.
-fn open_or(timed: &[Token], fault: DateFault) -> DateFault
-    ensures { result ≡ spec.open_or timed.now fault }
+fn open_or(time_tokens: &[Token], fault: DateFault) -> DateFault
+    ensures { result ≡ spec.open_or time_tokens.now fault }
 {
     match fault {
-        DateFault::Malformed if ends_open(timed) => DateFault::OpenYear,
+        DateFault::Malformed if ends_open(time_tokens) => DateFault::OpenYear,
         _ => fault,
     }
 }
 
 /// Returns why parts are not a date: the part of a time, the Roman numeral or the year with an open
 /// digit that they have, or else the fault.
-fn reason(tokens: &[Token], timed: &[Token], fault: DateFault) -> DateFault
-    ensures { result ≡ spec.reason tokens.now timed.now fault }
+fn reason(tokens: &[Token], time_tokens: &[Token], fault: DateFault) -> DateFault
+    ensures { result ≡ spec.reason tokens.now time_tokens.now fault }
 {
-    if has_period(tokens) || is_winter(timed) {
+    if has_period(tokens) || is_winter(time_tokens) {
         DateFault::OpenPart
     } else if has_roman_numeral(tokens) {
         DateFault::RomanNumeral
     } else if has_open_year(tokens) {
         DateFault::OpenYear
     } else {
-        open_or(timed, fault)
+        open_or(time_tokens, fault)
     }
 }
 
 /// Returns a date that was read, or why parts are not a date.
 fn or_reason(
     tokens: &[Token],
-    timed: &[Token],
+    time_tokens: &[Token],
     read: Result<AnyDate, DateFault>,
-) -> Result<Written, DateFault>
-    ensures { result ≡ spec.or_reason tokens.now timed.now read }
+) -> Result<TextReading, DateFault>
+    ensures { result ≡ spec.or_reason tokens.now time_tokens.now read }
 {
     match read {
-        Ok(date) => Ok(Written::Date(date)),
-        Err(fault) => Err(reason(tokens, timed, fault)),
+        Ok(date) => Ok(TextReading::Date(date)),
+        Err(fault) => Err(reason(tokens, time_tokens, fault)),
     }
 }
 
 /// Returns whether parts say that a text is undated, as `n.d.` does.
-fn is_undated(timed: &[Token]) -> bool
-    ensures { result ≡ spec.is_undated timed.now }
+fn is_undated(time_tokens: &[Token]) -> bool
+    ensures { result ≡ spec.is_undated time_tokens.now }
 {
-    matches!(timed, [Token::Undated | Token::No])
+    matches!(time_tokens, [Token::Undated | Token::No])
 }
 
-/// Returns what parts say. The parts `timed` are those that say which day is meant.
+/// Returns what parts say. The parts `time_tokens` are those that say which day is meant.
 pub fn reading_of_tokens(
     order: DateOrder,
     tokens: &[Token],
-    timed: &[Token],
-) -> Result<Written, DateFault>
-    ensures { result ≡ spec.reading_of_tokens order tokens.now timed.now }
+    time_tokens: &[Token],
+) -> Result<TextReading, DateFault>
+    ensures { result ≡ spec.reading_of_tokens order tokens.now time_tokens.now }
 {
-    if tokens.is_empty() || is_undated(timed) {
-        return Ok(Written::NoDate);
+    if tokens.is_empty() || is_undated(time_tokens) {
+        return Ok(TextReading::NoDate);
     }
     if has_feast(tokens) {
-        return Ok(Written::Date(feast_of(tokens, timed)?));
+        return Ok(TextReading::Date(feast_of(tokens, time_tokens)?));
     }
-    or_reason(tokens, timed, date_of(order, tokens, timed))
+    or_reason(tokens, time_tokens, date_of(order, tokens, time_tokens))
 }
 
 /// Returns that a text is a set of dates, or why its first wrong member is not one, or otherwise
@@ -266,24 +276,24 @@ fn or_set(
     alloc: Global,
     text: &str,
     fault: DateFault,
-) -> Result<Result<Written, DateFault>, AllocError>
+) -> Result<Result<TextReading, DateFault>, AllocError>
     ensures { IfOk result (λ read. read ≡ spec.or_set (spec.set_in text.now) (Err fault)) }
 {
     match set_in(alloc, text)? {
-        Ok(_) => Ok(Ok(Written::Set)),
+        Ok(_) => Ok(Ok(TextReading::Set)),
         Err(DateFault::Malformed) => Ok(Err(fault)),
         Err(reason) => Ok(Err(reason)),
     }
 }
 
 /// Returns what a text says, or else the years that it is by digits and signs alone.
-fn or_years(text: &str, read: Result<Written, DateFault>) -> Result<Written, DateFault>
+fn or_years(text: &str, read: Result<TextReading, DateFault>) -> Result<TextReading, DateFault>
     ensures { result ≡ spec.or_years text.now read }
 {
     match read {
         Ok(written) => Ok(written),
         Err(fault) => match years_of_text(text) {
-            Some(date) => Ok(Written::Date(date)),
+            Some(date) => Ok(TextReading::Date(date)),
             None => Err(fault),
         },
     }
@@ -299,7 +309,7 @@ pub fn read_date(
     alloc: Global,
     text: &str,
     order: DateOrder,
-) -> Result<Result<Written, DateFault>, AllocError>
+) -> Result<Result<TextReading, DateFault>, AllocError>
     ensures value { IfOk result (λ read. read ≡ spec.read_date order text.now) }
     // as a law: no name is twice in the table of names
     ensures names { AreNamesDistinct }
@@ -316,12 +326,12 @@ pub fn read_date(
     ensures sets { AreSetsRead }
 {
     let tokens = tokens_in(alloc, text)?;
-    let timed: Vec<Token> = tokens
+    let time_tokens: Vec<Token> = tokens
         .iter()
         .copied()
         .filter(|token| token.is_of_time())
         .collect(alloc)?;
-    match reading_of_tokens(order, tokens.as_slice(), timed.as_slice()) {
+    match reading_of_tokens(order, tokens.as_slice(), time_tokens.as_slice()) {
         Ok(written) => Ok(Ok(written)),
         Err(fault) => {
             let read = or_years(text, or_set(alloc, text, fault)?);
@@ -330,7 +340,7 @@ pub fn read_date(
                 order,
                 text,
                 tokens.as_slice(),
-                timed.as_slice(),
+                time_tokens.as_slice(),
                 read,
             )
         }

@@ -57,8 +57,8 @@ fn first_value(word: &[u8]) -> u32
 }
 
 /// Returns the value with one more letter before the others, if they have one.
-fn added(letter: u8, rest: &[u8], value: Option<u32>) -> Option<u32>
-    ensures { result ≡ spec.added letter rest.now value }
+fn sum_with(letter: u8, rest: &[u8], value: Option<u32>) -> Option<u32>
+    ensures { result ≡ spec.sum_with letter rest.now value }
 {
     with_letter(letter_value(letter), first_value(rest), value?)
 }
@@ -71,7 +71,7 @@ fn roman_value(word: &[u8]) -> Option<u32>
     let mut place = word.len();
     while place > 0 {
         place -= 1;
-        value = added(word[place], &word[place + 1..], value);
+        value = sum_with(word[place], &word[place + 1..], value);
     }
     value
 }

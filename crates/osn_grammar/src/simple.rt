@@ -3,8 +3,8 @@ ghost use Rattle.std.specs.Prelude.{◌≡◌, ◌+◌, ◌%◌, ◌^◌, ◌==�
 ghost use Rattle.osn_grammar.specs.Simple as spec;
 
 use crate::order::{is_month, order_of};
+use crate::text_reading::DateOrder;
 use crate::token::Numeral;
-use crate::written::DateOrder;
 use osn_written::{DateFault, PartialDate, Year};
 
 /// The numbers of a year: its own, and the one after a `/`.

@@ -43,8 +43,8 @@ fn century(number: u32) -> Option<Years>
 }
 
 /// Returns the years from the first of some to the last of others, if a part joins them.
-fn joined(first: Option<Years>, token: Token, last: Option<Years>) -> Option<Years>
-    ensures { result ≡ spec.joined first token last }
+fn join_years(first: Option<Years>, token: Token, last: Option<Years>) -> Option<Years>
+    ensures { result ≡ spec.join_years first token last }
 {
     match token {
         Dash | Slash | To | Or => Some(Years {
@@ -124,7 +124,7 @@ fn decades_in(tokens: &[Token]) -> Option<Years>
     ensures { result ≡ spec.decades_in tokens.now }
 {
     match tokens {
-        [Token::Years(first), token, Token::Years(last)] => joined(
+        [Token::Years(first), token, Token::Years(last)] => join_years(
             Some(*first),
             *token,
             Some(*last),
@@ -139,7 +139,7 @@ fn centuries_in(tokens: &[Token]) -> Option<Years>
 {
     match tokens {
         [Number(first), token, Number(last), Century] => {
-            joined(century(first.value), *token, century(last.value))
+            join_years(century(first.value), *token, century(last.value))
         }
         _ => None,
     }
@@ -149,7 +149,7 @@ fn centuries_in(tokens: &[Token]) -> Option<Years>
 fn roman_years(first: u8, token: Token, last: u8) -> Option<Years>
     ensures { result ≡ spec.roman_years first token last }
 {
-    joined(century(u32::from(first)), token, century(u32::from(last)))
+    join_years(century(u32::from(first)), token, century(u32::from(last)))
 }
 
 /// Returns the years from one century to another, by Roman numerals.
@@ -233,15 +233,15 @@ fn open_years(text: &[u8], is_supplied: bool) -> Option<AnyDate>
 }
 
 /// Returns whether four bytes are `th c`, in capital or small letters.
-fn is_th_c(t: u8, h: u8, s: u8, c: u8) -> bool
-    ensures { result ≡ spec.is_th_c t h s c }
+fn is_ordinal(t: u8, h: u8, s: u8, c: u8) -> bool
+    ensures { result ≡ spec.is_ordinal t h s c }
 {
     (t == b't' || t == b'T') && (h == b'h' || h == b'H') && s == b' ' && (c == b'c' || c == b'C')
 }
 
 /// Returns the century of two digits.
-fn numbered(a: u8, b: u8) -> Option<Years>
-    ensures { result ≡ spec.numbered a b }
+fn years_by(a: u8, b: u8) -> Option<Years>
+    ensures { result ≡ spec.years_by a b }
 {
     if are_two_digits(a, b) {
         century(u32::from(10 * digit(a) + digit(b)))
@@ -255,8 +255,8 @@ fn century_by_letter(text: &[u8]) -> Option<Years>
     ensures { result ≡ spec.century_by_letter text.now }
 {
     match text {
-        [a, b, t, h, s, c] if is_th_c(*t, *h, *s, *c) => numbered(*a, *b),
-        [a, b, t, h, s, c, stop] if is_th_c(*t, *h, *s, *c) && *stop == b'.' => numbered(*a, *b),
+        [a, b, t, h, s, c] if is_ordinal(*t, *h, *s, *c) => years_by(*a, *b),
+        [a, b, t, h, s, c, stop] if is_ordinal(*t, *h, *s, *c) && *stop == b'.' => years_by(*a, *b),
         _ => None,
     }
 }

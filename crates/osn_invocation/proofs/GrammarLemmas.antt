@@ -10,13 +10,14 @@ use Rattle.clap.specs.declared.builder.command.Command.{Command}
 use Rattle.clap.proofs.OnLiterals.{clap_on_literals}
 use Rattle.osn_invocation.specs.declared.argument.Argument.{Argument}
 use Rattle.osn_invocation.specs.declared.commands.CommandRow.{CommandRow}
-use Rattle.osn_invocation.specs.Grammar.{HasArguments, HasCommands, IsArg, IsCommand, command_line}
+use Rattle.osn_invocation.specs.Grammar.{HasArguments, HasCommands, IsArgument, IsCommand}
+use Rattle.osn_invocation.specs.Grammar.{command_line}
 use Rattle.osn_invocation.specs.Grammar.{command_of_row, rule_of_argument, with_argument}
 use Rattle.osn_invocation.specs.Grammar.{with_command}
 
 -- a command with one more argument
 pub one_more_arg : (old new : Command) (arg : Arg) (grammar : App) (rule : Rule)
-    → AddsArg old arg new → IsCommand grammar old → IsArg rule arg
+    → AddsArg old arg new → IsCommand grammar old → IsArgument rule arg
     → IsCommand (with_rule grammar rule) new
 one_more_arg old new arg grammar rule added is word = (
   added.shape word.1 ∙ ap₂ with_rule is.0 word.0,
@@ -35,7 +36,7 @@ one_more_command old new sub grammar below added is under = (
 -- and with one more of a list of arguments
 pub next_argument : (first old new : Command) (arg : Arg) (arguments : List Argument) (i : ℕ)
     (d : Argument) → i < length arguments → AddsArg old arg new
-    → IsArg (rule_of_argument (get_or arguments i d)) arg
+    → IsArgument (rule_of_argument (get_or arguments i d)) arg
     → HasArguments first (take i arguments) old → HasArguments first (take (i + 1) arguments) new
 next_argument first old new arg arguments i d lt added is has free =
     rw (fold_more with_argument (app_of first) arguments i d lt)

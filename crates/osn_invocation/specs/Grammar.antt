@@ -42,23 +42,23 @@ readers_option = record (new_rule (codes "readers")) {
 }
 
 -- an argument that is required
-abbrev pub required_arg : Text → Rule
-required_arg name = record (new_rule name) { value_names = 1; required = true }
+abbrev pub required_argument : Text → Rule
+required_argument name = record (new_rule name) { value_names = 1; required = true }
 
 -- an argument that may be left out
-abbrev pub optional_arg : Text → Rule
-optional_arg name = record (new_rule name) { value_names = 1 }
+abbrev pub optional_argument : Text → Rule
+optional_argument name = record (new_rule name) { value_names = 1 }
 
 -- YEAR is 0 to 4294967295
-abbrev pub year_arg : Rule
-year_arg =
-    record (required_arg (codes "year")) { parser = Some (Signed (pos 0) (pos 4294967295)) }
+abbrev pub year_argument : Rule
+year_argument =
+    record (required_argument (codes "year")) { parser = Some (Signed (pos 0) (pos 4294967295)) }
 
 -- the rule of an argument of the table of commands
 abbrev pub rule_of_argument : Argument → Rule
-rule_of_argument (Required id shown help) = required_arg id.now
-rule_of_argument (Optional id shown help) = optional_arg id.now
-rule_of_argument (Year help) = year_arg
+rule_of_argument (Required id shown help) = required_argument id.now
+rule_of_argument (Optional id shown help) = optional_argument id.now
+rule_of_argument (Year help) = year_argument
 rule_of_argument (Valued id shown help) = value_option id.now
 rule_of_argument (Journal help) = journal_option
 rule_of_argument (Flag id help) = flag_option id.now
@@ -84,50 +84,54 @@ abbrev pub edition_option : Rule
 edition_option = value_option (codes "edition")
 
 -- the argument JOURNAL
-abbrev pub journal_arg : Rule
-journal_arg = required_arg (codes "journal")
+abbrev pub journal_argument : Rule
+journal_argument = required_argument (codes "journal")
 
 -- `read JOURNAL CODE DATE [--weekday DAY] [--order ORDER] [--strict] [--json] [--edition N]
 -- [--journal FILE] [--limits LIMITS]`
 abbrev pub read_grammar : App
-read_grammar = command_with (codes "read") (journal_arg ∷ required_arg (codes "code")
-    ∷ required_arg (codes "date") ∷ value_option (codes "weekday") ∷ value_option (codes "order")
+read_grammar = command_with (codes "read") (journal_argument ∷ required_argument (codes "code")
+    ∷ required_argument (codes "date") ∷ value_option (codes "weekday") ∷ value_option
+    (codes "order")
     ∷ flag_option (codes "strict") ∷ json_option ∷ edition_option ∷ journal_option
     ∷ limits_option ∷ [])
 
 -- `convert CALENDAR DATE`
 abbrev pub convert_grammar : App
 convert_grammar = command_with (codes "convert")
-    (required_arg (codes "calendar") ∷ required_arg (codes "date") ∷ [])
+    (required_argument (codes "calendar") ∷ required_argument (codes "date") ∷ [])
 
 -- `day JOURNAL CODE DATE [--json] [--edition N] [--journal FILE] [--limits LIMITS]`
 abbrev pub day_grammar : App
-day_grammar = command_with (codes "day") (journal_arg ∷ required_arg (codes "code")
-    ∷ required_arg (codes "date") ∷ json_option ∷ edition_option ∷ journal_option
+day_grammar = command_with (codes "day") (journal_argument ∷ required_argument (codes "code")
+    ∷ required_argument (codes "date") ∷ json_option ∷ edition_option ∷ journal_option
     ∷ limits_option ∷ [])
 
 -- `month JOURNAL CODE YEAR MONTH [--json] [--edition N] [--journal FILE] [--limits LIMITS]`
 abbrev pub month_grammar : App
-month_grammar = command_with (codes "month") (journal_arg ∷ required_arg (codes "code")
-    ∷ required_arg (codes "year") ∷ required_arg (codes "month") ∷ json_option ∷ edition_option
+month_grammar = command_with (codes "month") (journal_argument ∷ required_argument (codes "code")
+    ∷ required_argument (codes "year") ∷ required_argument
+    (codes "month") ∷ json_option ∷ edition_option
     ∷ journal_option ∷ limits_option ∷ [])
 
 -- `year JOURNAL CODE YEAR [--json] [--edition N] [--journal FILE] [--limits LIMITS]`
 abbrev pub year_grammar : App
-year_grammar = command_with (codes "year") (journal_arg ∷ required_arg (codes "code")
-    ∷ required_arg (codes "year") ∷ json_option ∷ edition_option ∷ journal_option
+year_grammar = command_with (codes "year") (journal_argument ∷ required_argument (codes "code")
+    ∷ required_argument (codes "year") ∷ json_option ∷ edition_option ∷ journal_option
     ∷ limits_option ∷ [])
 
 -- `territory JOURNAL [CODE] [--json] [--edition N] [--journal FILE] [--limits LIMITS]`
 abbrev pub territory_grammar : App
-territory_grammar = command_with (codes "territory") (journal_arg ∷ optional_arg (codes "code")
+territory_grammar = command_with (codes "territory") (journal_argument ∷ optional_argument
+    (codes "code")
     ∷ json_option ∷ edition_option ∷ journal_option ∷ limits_option ∷ [])
 
 -- `letters JOURNAL [TABLE] [--place NAME] [--in PLACE] [--date NAME] [--year NAME] [--month NAME]
 -- [--day NAME] [--weekday NAME] [--places FILE] [--separator NAME] [--order ORDER] [--strict]
 -- [--summary] [--replace] [--keep-going] [--edition N] [--journal FILE] [--limits LIMITS]`
 abbrev pub letters_grammar : App
-letters_grammar = command_with (codes "letters") (journal_arg ∷ optional_arg (codes "table")
+letters_grammar = command_with (codes "letters") (journal_argument ∷ optional_argument
+    (codes "table")
     ∷ value_option (codes "place") ∷ value_option (codes "in")
     ∷ value_option (codes "date") ∷ value_option (codes "year")
     ∷ value_option (codes "month") ∷ value_option (codes "day") ∷ value_option (codes "weekday")
@@ -148,56 +152,59 @@ serve_grammar = command_with (codes "serve") (value_option (codes "journal")
 
 -- `text JOURNAL [CODE] [--edition N] [--journal FILE] [--limits LIMITS]`
 abbrev pub text_grammar : App
-text_grammar = command_with (codes "text") (journal_arg ∷ optional_arg (codes "code")
+text_grammar = command_with (codes "text") (journal_argument ∷ optional_argument (codes "code")
     ∷ edition_option ∷ journal_option ∷ limits_option ∷ [])
 
 -- `check TEXT [--limits LIMITS]`
 abbrev pub check_grammar : App
-check_grammar = command_with (codes "check") (required_arg (codes "text") ∷ limits_option ∷ [])
+check_grammar = command_with (codes "check") (required_argument (codes "text") ∷ limits_option ∷ [])
 
 -- `plan JOURNAL TEXT [--strict] [--journal FILE] [--limits LIMITS]`
 abbrev pub plan_grammar : App
-plan_grammar = command_with (codes "plan") (journal_arg ∷ required_arg (codes "text")
+plan_grammar = command_with (codes "plan") (journal_argument ∷ required_argument (codes "text")
     ∷ flag_option (codes "strict") ∷ journal_option ∷ limits_option ∷ [])
 
 -- `publish JOURNAL TEXT [--onto-newest] [--journal FILE] [--limits LIMITS]`
 abbrev pub publish_grammar : App
-publish_grammar = command_with (codes "publish") (journal_arg ∷ required_arg (codes "text")
+publish_grammar = command_with (codes "publish") (journal_argument ∷ required_argument
+    (codes "text")
     ∷ flag_option (codes "onto-newest") ∷ journal_option ∷ limits_option ∷ [])
 
 -- `editions JOURNAL [--journal FILE] [--limits LIMITS]`
 abbrev pub editions_grammar : App
 editions_grammar =
-    command_with (codes "editions") (journal_arg ∷ journal_option ∷ limits_option ∷ [])
+    command_with (codes "editions") (journal_argument ∷ journal_option ∷ limits_option ∷ [])
 
 -- `diff JOURNAL FROM TO [--journal FILE] [--limits LIMITS]`
 abbrev pub diff_grammar : App
-diff_grammar = command_with (codes "diff") (journal_arg ∷ required_arg (codes "from")
-    ∷ required_arg (codes "to") ∷ journal_option ∷ limits_option ∷ [])
+diff_grammar = command_with (codes "diff") (journal_argument ∷ required_argument (codes "from")
+    ∷ required_argument (codes "to") ∷ journal_option ∷ limits_option ∷ [])
 
 -- `replay --readers N SCHEDULE [--limits LIMITS]`
 abbrev pub replay_grammar : App
 replay_grammar = command_with (codes "replay") (record readers_option { required = true }
-    ∷ required_arg (codes "schedule") ∷ limits_option ∷ [])
+    ∷ required_argument (codes "schedule") ∷ limits_option ∷ [])
 
 -- `desk SCRIPT QUESTIONS [--limits LIMITS]`
 abbrev pub desk_grammar : App
-desk_grammar = command_with (codes "desk") (required_arg (codes "script")
-    ∷ required_arg (codes "questions") ∷ limits_option ∷ [])
+desk_grammar = command_with (codes "desk") (required_argument (codes "script")
+    ∷ required_argument (codes "questions") ∷ limits_option ∷ [])
 
 -- `almanac JOURNAL CODE YEAR [--edition N] [--journal FILE] [--limits LIMITS]`
 abbrev pub almanac_grammar : App
-almanac_grammar = command_with (codes "almanac") (journal_arg ∷ required_arg (codes "code")
-    ∷ year_arg ∷ edition_option ∷ journal_option ∷ limits_option ∷ [])
+almanac_grammar = command_with (codes "almanac") (journal_argument ∷ required_argument
+    (codes "code")
+    ∷ year_argument ∷ edition_option ∷ journal_option ∷ limits_option ∷ [])
 
 -- `audit JOURNAL TRANSCRIPT [--journal FILE] [--limits LIMITS]`
 abbrev pub audit_grammar : App
 audit_grammar = command_with (codes "audit")
-    (journal_arg ∷ required_arg (codes "transcript") ∷ journal_option ∷ limits_option ∷ [])
+    (journal_argument ∷ required_argument
+    (codes "transcript") ∷ journal_option ∷ limits_option ∷ [])
 
 -- `completions SHELL`
 abbrev pub completions_grammar : App
-completions_grammar = command_with (codes "completions") (required_arg (codes "shell") ∷ [])
+completions_grammar = command_with (codes "completions") (required_argument (codes "shell") ∷ [])
 
 -- a command with one more argument of the table of commands
 abbrev pub with_argument : App → Argument → App
@@ -246,8 +253,8 @@ command_line =
     with_all (with_all (with_all program_grammar date_commands) table_commands) other_commands
 
 -- the argument has this rule, at its own command alone
-abbrev pub IsArg : Rule → Arg → Type 0
-IsArg rule arg = (rule_of arg ≡ rule) × (arg.global ≡ false)
+abbrev pub IsArgument : Rule → Arg → Type 0
+IsArgument rule arg = (rule_of arg ≡ rule) × (arg.global ≡ false)
 
 -- the command has this grammar, and no argument of it is one of its commands' too
 abbrev pub IsCommand : App → Command → Type 0

@@ -1,6 +1,7 @@
 //! An argument of a command, as it is typed and as help shows it.
 
-ghost use Rattle.osn_invocation.specs.Grammar.{IsArg, journal_option, readers_option, required_arg};
+ghost use Rattle.osn_invocation.specs.Grammar.{IsArgument, journal_option, readers_option};
+ghost use Rattle.osn_invocation.specs.Grammar.{required_argument};
 ghost use Rattle.osn_invocation.specs.Grammar.{rule_of_argument};
 
 use clap::{Arg, ArgAction, value_parser};
@@ -29,7 +30,7 @@ pub(crate) enum Argument {
 
 /// Returns the option `--readers`.
 fn readers_of<'a>(alloc: Global) -> Arg<'a>
-    ensures { IsArg readers_option result }
+    ensures { IsArgument readers_option result }
 {
     Arg::new(alloc, "readers")
         .long("readers")
@@ -39,7 +40,7 @@ fn readers_of<'a>(alloc: Global) -> Arg<'a>
 
 /// Returns the option `--journal`. Its name differs from that of the argument JOURNAL.
 fn journal_of<'a>(alloc: Global) -> Arg<'a>
-    ensures { IsArg journal_option result }
+    ensures { IsArgument journal_option result }
 {
     Arg::new(alloc, "journal-file")
         .long("journal")
@@ -48,14 +49,14 @@ fn journal_of<'a>(alloc: Global) -> Arg<'a>
 
 /// Returns an argument that is required.
 fn required_of<'a>(alloc: Global, id: &'a str, value_name: &'a str) -> Arg<'a>
-    ensures { IsArg (required_arg id.now) result }
+    ensures { IsArgument (required_argument id.now) result }
 {
     Arg::new(alloc, id).value_name(value_name).required(true)
 }
 
 /// Returns an argument for `clap`.
-pub(crate) fn arg_of<'a>(alloc: Global, argument: Argument) -> Arg<'a>
-    ensures { IsArg (rule_of_argument argument) result }
+pub(crate) fn argument_of<'a>(alloc: Global, argument: Argument) -> Arg<'a>
+    ensures { IsArgument (rule_of_argument argument) result }
 {
     match argument {
         Argument::Required(id, value_name, help) => required_of(alloc, id, value_name).help(help),

@@ -5,7 +5,7 @@ ghost use Rattle.osn_invocation.specs.Grammar.{HasArguments, HasCommands, IsComm
 ghost use Rattle.osn_invocation.specs.Grammar.{command_line, command_of_row, date_commands};
 ghost use Rattle.osn_invocation.specs.Grammar.{other_commands, table_commands};
 
-use crate::argument::{Argument, arg_of};
+use crate::argument::{Argument, argument_of};
 use crate::commands::{CommandRow, OTHERS, TABLES};
 use crate::dates::DATES;
 use clap::Command;
@@ -40,7 +40,7 @@ fn with_arguments<'a>(
 {
     let mut command = command;
     for argument in arguments {
-        command = command.arg(arg_of(alloc, *argument))?;
+        command = command.arg(argument_of(alloc, *argument))?;
     }
     Ok(command)
 }

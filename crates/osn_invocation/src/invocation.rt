@@ -240,7 +240,7 @@ fn matches_in<'a, S: AsStr>(alloc: Global, args: &'a [S]) -> Result<ArgMatches<'
 ///
 /// Returns what is shown to the user in place of a command: help or the version if they were
 /// requested, a mistake in the arguments, or that memory ran out.
-pub fn parse_args<'a, S: AsStr>(alloc: Global, args: &'a [S]) -> Result<Invocation<'a>, Error>
+pub fn parse_arguments<'a, S: AsStr>(alloc: Global, args: &'a [S]) -> Result<Invocation<'a>, Error>
     ensures ok { IfOk result (λ found. model_of found ≡ invocation_in (map S.text args.now)) }
     ensures err { IfErr result (λ e. takes command_line (map S.text args.now) ≡ true
         → kind_of e ≡ OutOfMemory) }

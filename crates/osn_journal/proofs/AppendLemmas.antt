@@ -14,7 +14,7 @@ use Rattle.osn_service.specs.declared.store.StoreFault.{StoreFault}
 use Rattle.osn_service.specs.declared.store.StoreFault.TheVariants.{NotKept}
 use Rattle.osn_journal.specs.KeptJournal.{FileState}
 use Rattle.osn_journal.specs.ChangeInside.{change_line, IsAppended, IsSynced, FailsAtLine, HasLine}
-use Rattle.osn_journal.specs.ChangeInside.{GivesLawful, Keeping}
+use Rattle.osn_journal.specs.ChangeInside.{GivesLawful, ChangeResult}
 
 -- a line was appended or not
 pub appended_or_failed : {A : Type 0} (line : List ℕ) (r : Result A KeptFileFault)
@@ -48,16 +48,16 @@ synced_or_failed line (Err why) a b c h same ok err fault = record {
 }
 
 -- a change was made, and the file's result for its line is the store's result
-pub Keeping-result : {A : Type 0} (change : Change) (s t : ObjectState) (line : List ℕ)
+pub ChangeResult-result : {A : Type 0} (change : Change) (s t : ObjectState) (line : List ℕ)
     (r : Result A KeptFileFault) (outcome : Result A (StoreFault KeptFileFault))
     (old new : FileState) → t ≡ changed s change → GivesLawful change → line ≡ change_line change
     → MatchResult r (λ x. outcome ≡ Ok x) (λ why. IsErrAnd outcome (λ fault. fault ≡ NotKept why))
     → MatchResult r (λ _. HasLine change line old new) (FailsAtLine line old new)
-    → Keeping change s t old new outcome
-Keeping-result change s t line (Ok done) outcome old new made lawful is said h =
-    subst (Keeping change s t old new) (sym said)
+    → ChangeResult change s t old new outcome
+ChangeResult-result change s t line (Ok done) outcome old new made lawful is said h =
+    subst (ChangeResult change s t old new) (sym said)
     (made, lawful, subst (λ l. HasLine change l old new) is h)
-Keeping-result change s t line (Err why) outcome old new made lawful is said h =
+ChangeResult-result change s t line (Err why) outcome old new made lawful is said h =
     let fault = err_from_is_err_and outcome said in
-    subst (Keeping change s t old new) (sym (fault.1 ∙ ap Err fault.2))
+    subst (ChangeResult change s t old new) (sym (fault.1 ∙ ap Err fault.2))
     (made, subst (λ l. FailsAtLine l old new why) is h)

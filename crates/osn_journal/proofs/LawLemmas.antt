@@ -6,7 +6,7 @@ use Rattle.serde_json.specs.Data.{Data}
 use Rattle.osn_days.specs.Rules.{newest_rules}
 use Rattle.osn_core.specs.declared.command.Command.{Command}
 use Rattle.osn_core.specs.declared.command.Command.TheVariants.{Stage, Publish}
-use Rattle.osn_core.specs.Sequential.{ObjectState, opened, with_pending, with_edition}
+use Rattle.osn_core.specs.Sequential.{ObjectState, empty_object, with_pending, with_edition}
 use Rattle.osn_core.specs.Sequential.{stage_refusal, publish_refusal}
 use Rattle.osn_register.specs.declared.limits.Limits.{Limits}
 use Rattle.osn_register.specs.declared.refusal.Refusal.{Refusal}
@@ -86,21 +86,23 @@ by_lines n version s t (l ∷ ls) h =
 by_file : (limits : Limits) (s t : ObjectState) (xs ys : List (List ℕ))
     → specs.object_of limits xs ≡ Ok s → specs.object_of limits (xs ++ ys) ≡ Ok t → BeginsWith s t
 by_file limits s t [] ys h k =
-    let is : opened limits ≡ s = cc in
+    let is : empty_object limits ≡ s = cc in
     subst (λ (u : ObjectState). BeginsWith u t) is (record { later = t.batches; batches = refl })
 by_file limits s t (head ∷ xs) ys h k = headed (version_of head) h k
   where
     headed : (r : Result Version WireFault)
         → go_on 1 (on_read r Ok) (λ version. in_turn (after_object newest_rules) 2 (Some version)
-        (opened limits) xs)
+        (empty_object limits) xs)
         ≡ Ok s
         → go_on 1 (on_read r Ok)
-        (λ version. in_turn (after_object newest_rules) 2 (Some version) (opened limits) (xs ++ ys))
+        (λ version. in_turn (after_object newest_rules) 2 (Some version) (empty_object limits) (xs
+        ++ ys))
         ≡ Ok t
         → BeginsWith s t
     headed (Ok version) h k =
         by_lines _ version s t ys
-        (sym (goes_on_from (after_object newest_rules) 2 2 version (opened limits) s xs ys h) ∙ k)
+        (sym (goes_on_from (after_object newest_rules) 2 2 version
+        (empty_object limits) s xs ys h) ∙ k)
     headed (Err f) h k = absurd (cc)
 
 pub editions_never_fall : DoEditionsNeverFall
@@ -127,17 +129,18 @@ first_lines n version s t (x ∷ xs) ys h =
 first_file : (limits : Limits) (t : ObjectState) (xs ys : List (List ℕ))
     → specs.object_of limits (xs ++ ys) ≡ Ok t
     → (u : ObjectState) × (specs.object_of limits xs ≡ Ok u)
-first_file limits t [] ys h = (opened limits, refl)
+first_file limits t [] ys h = (empty_object limits, refl)
 first_file limits t (head ∷ xs) ys h = headed (version_of head) h
   where
     headed : (r : Result Version WireFault)
         → go_on 1 (on_read r Ok)
-        (λ version. in_turn (after_object newest_rules) 2 (Some version) (opened limits) (xs ++ ys))
+        (λ version. in_turn (after_object newest_rules) 2 (Some version) (empty_object limits) (xs
+        ++ ys))
         ≡ Ok t
         → (u : ObjectState) × (go_on 1 (on_read r Ok) (λ version.
-        in_turn (after_object newest_rules) 2 (Some version) (opened limits) xs)
+        in_turn (after_object newest_rules) 2 (Some version) (empty_object limits) xs)
         ≡ Ok u)
-    headed (Ok version) h = first_lines 2 version (opened limits) t xs ys h
+    headed (Ok version) h = first_lines 2 version (empty_object limits) t xs ys h
     headed (Err f) h = absurd (cc)
 
 pub synced_editions_stay : DoSyncedEditionsStay

@@ -18,7 +18,7 @@ use Rattle.osn_service.specs.Serves.{KeepsStore}
 use Rattle.osn_service.specs.Store.{Makes, MatchStoreFault, FailsToKeep}
 use Rattle.osn_journal.specs.declared.kept_object.KeptObject.{KeptObject}
 use Rattle.osn_journal.specs.KeptJournal.{FileState, KeepsAll, KeepsFile, KeepsUntil, file_of}
-use Rattle.osn_journal.specs.ChangeInside.{Keeping}
+use Rattle.osn_journal.specs.ChangeInside.{ChangeResult}
 use Rattle.osn_journal.specs.KeptObjectInside.{HasKept, HasLost}
 use Rattle.osn_journal.proofs.KeepingLemmas.{KeepsAll-nothing, KeepsAll-change, KeepsAll-then}
 use Rattle.osn_journal.proofs.KeepingLemmas.{KeepsUntil-from}
@@ -43,7 +43,7 @@ module _ {K : Type 0} (contents synced : K → Option (List ℕ))
       (lawful : change_refusal (object_of old) change ≡ None) where
     -- a change was made and kept
     pub Makes-changed : {A : Type 0} (result : Result A (StoreFault KeptFileFault))
-        → Keeping change (object_of old) (object_of new) (file_at old) (file_at new) result
+        → ChangeResult change (object_of old) (object_of new) (file_at old) (file_at new) result
         → OnOk result (Makes object_of has_kept old new (changed (object_of old) change))
     Makes-changed (Ok done) h = record {
       is = h.0;
@@ -59,7 +59,7 @@ module _ {K : Type 0} (contents synced : K → Option (List ℕ))
 
     -- a change was not made, or not kept
     pub Faults-changed : {A : Type 0} (result : Result A (StoreFault KeptFileFault))
-        → Keeping change (object_of old) (object_of new) (file_at old) (file_at new) result
+        → ChangeResult change (object_of old) (object_of new) (file_at old) (file_at new) result
         → IfErr result (λ why. MatchStoreFault why
         (Makes object_of has_kept old new (object_of old))
         (FailsToKeep object_of has_kept has_lost old new (changed (object_of old) change)))

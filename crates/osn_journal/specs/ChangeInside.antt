@@ -46,10 +46,10 @@ HasLine (Stage edit) line old new = IsAppended line old new
 HasLine Publish line old new = IsSynced line old new
 
 -- what became of a change of an object that was s and is t, and of the file
-abbrev pub Keeping : {A : Type 0} → Change → ObjectState → ObjectState → FileState → FileState
+abbrev pub ChangeResult : {A : Type 0} → Change → ObjectState → ObjectState → FileState → FileState
     → Result A (StoreFault KeptFileFault) → Type 0
-Keeping change s t old new (Ok _) =
+ChangeResult change s t old new (Ok _) =
     (t ≡ changed s change) × GivesLawful change × HasLine change (change_line change) old new
-Keeping change s t old new (Err NoMemory) = (t ≡ s) × (new ≡ old)
-Keeping change s t old new (Err (NotKept why)) =
+ChangeResult change s t old new (Err NoMemory) = (t ≡ s) × (new ≡ old)
+ChangeResult change s t old new (Err (NotKept why)) =
     (t ≡ changed s change) × FailsAtLine (change_line change) old new why

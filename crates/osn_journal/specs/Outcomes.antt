@@ -5,7 +5,7 @@ use Rattle.std.specs.Prelude.{Result, Ok, Err}
 use Rattle.std.specs.List.{flat_map}
 use Rattle.osn_days.specs.Rules.{newest_rules}
 use Rattle.osn_register.specs.declared.limits.Limits.{Limits}
-use Rattle.osn_core.specs.Sequential.{ObjectState, opened}
+use Rattle.osn_core.specs.Sequential.{ObjectState, empty_object}
 use Rattle.osn_lines.specs.LastLineFeed.{ended_bytes, unended_bytes}
 use Rattle.osn_lines.specs.Lines.{lines}
 use Rattle.osn_service.specs.ReplyText.{reply_line}
@@ -31,7 +31,7 @@ with_feed bytes = bytes ++ missing_feed (unended_bytes bytes)
 
 -- the object of a journal of these lines: an empty one if it has none yet
 abbrev pub object_of : Limits → List (List ℕ) → Result ObjectState (ℕ × LineFault)
-object_of limits [] = Ok (opened limits)
+object_of limits [] = Ok (empty_object limits)
 object_of limits (head ∷ rest) = load newest_rules limits (head ∷ rest)
 
 -- the object of a file of these whole lines, or the first that is refused

@@ -3,7 +3,7 @@ ghost use Rattle.std.specs.Prelude.{◌≡◌, None, MatchResult};
 ghost use Rattle.osn_days.specs.Rules.{newest_rules};
 ghost use Rattle.osn_core.specs.Sequential.{stage_refusal, publish_refusal};
 ghost use Rattle.osn_journal.specs.KeptJournal.{file_of};
-ghost use Rattle.osn_journal.specs.ChangeInside.{FailsAtLine, IsSynced, Keeping};
+ghost use Rattle.osn_journal.specs.ChangeInside.{FailsAtLine, IsSynced, ChangeResult};
 ghost use Rattle.osn_service.specs.declared.store.Change.TheVariants as changes;
 
 use osn_core::{Object, Reply};
@@ -26,7 +26,7 @@ fn stage<K: KeptFile>(
     edit: Edit,
 ) -> Result<(), StoreFault<KeptFileFault>>
     requires { stage_refusal newest_rules object.old edit ≡ None }
-    ensures { Keeping (changes.Stage edit) object.old object.new
+    ensures { ChangeResult (changes.Stage edit) object.old object.new
         (file_of K.contents K.synced K.fault keeper.old)
         (file_of K.contents K.synced K.fault keeper.new) result }
 {
@@ -63,7 +63,7 @@ fn publish<K: KeptFile>(
     keeper: &mut K,
 ) -> Result<(), StoreFault<KeptFileFault>>
     requires { publish_refusal object.old ≡ None }
-    ensures { Keeping changes.Publish object.old object.new
+    ensures { ChangeResult changes.Publish object.old object.new
         (file_of K.contents K.synced K.fault keeper.old)
         (file_of K.contents K.synced K.fault keeper.new) result }
 {

@@ -9,11 +9,11 @@ use Rattle.osn_days.specs.Chain.{date_of}
 use Rattle.osn_days.specs.Line.{IsDay}
 use Rattle.osn_days.specs.Rules.{newest_rules}
 use Rattle.osn_days.proofs.LineFacts.{date_of_line}
-use Rattle.osn_grammar.specs.declared.written.DateOrder.{DateOrder}
-use Rattle.osn_grammar.specs.InDigits.{HasFourDigits, sign, signed}
+use Rattle.osn_grammar.specs.declared.text_reading.DateOrder.{DateOrder}
+use Rattle.osn_grammar.specs.InDigits.{HasFourDigits, sign, text_with_signs}
 use Rattle.osn_grammar.specs.SetsInDigits.{AreSetsRead, Days, HaveFourDigits, days_text, set_text}
 use Rattle.osn_grammar.proofs.SetLaw.{sets_law}
-use Rattle.osn_territory.specs.declared.dated.DatedDay.{DatedDay}
+use Rattle.osn_territory.specs.declared.dating.DatedDay.{DatedDay}
 use Rattle.osn_territory.specs.declared.runs.Run.{Run}
 use Rattle.osn_letters.specs.Edtf.{edtf_day, edtf_of_days, edtf_of_runs, edtf_run, in_brackets}
 use Rattle.osn_letters.specs.Edtf.{sign_of}
@@ -45,7 +45,8 @@ joined_mapped f g h same (x ∷ xs) =
     ∙ ap (λ t. g (h x) ++ t) (flat_mapped f g h same xs)
 
 run_by : (a u : Bool) (first last : Date) (one : Bool)
-    → (if one then signed first a u else signed first a u ++ (codes ".." ++ signed last a u))
+    → (if one then text_with_signs first a u else text_with_signs first a u ++ (codes ".."
+    ++ text_with_signs last a u))
     ≡ days_text a u (first, if one then None else Some last)
 run_by a u first last true = refl
 run_by a u first last false = refl

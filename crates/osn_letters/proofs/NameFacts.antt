@@ -19,7 +19,7 @@ use Rattle.osn_letters.specs.declared.no_place.NoPlace.{NoPlace}
 use Rattle.osn_letters.specs.declared.no_place.NoPlace.TheVariants.{Unknown, Ambiguous}
 use Rattle.osn_letters.specs.FinderInside.{found_in}
 use Rattle.osn_letters.specs.TerritoryNames.{is_called, only_called, only_of, with_territory}
-use Rattle.osn_register.specs.Named.{listing_of}
+use Rattle.osn_register.specs.NamedTerritories.{listing_of}
 use Rattle.osn_register.specs.Plain.{EntryModel}
 
 abbrev Found : Type 0

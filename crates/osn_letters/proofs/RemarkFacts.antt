@@ -5,10 +5,10 @@ use Rattle.std.proofs.Common.{get_or, option_map, length}
 use Rattle.std.specs.Str.{bytes_eq}
 use Rattle.osn_days.specs.declared.weekday.Weekday.{Weekday}
 use Rattle.osn_days.specs.Rules.{Rules}
-use Rattle.osn_grammar.specs.declared.written.Written.{Written}
-use Rattle.osn_grammar.specs.declared.written.Written.TheVariants as written
+use Rattle.osn_grammar.specs.declared.text_reading.TextReading.{TextReading}
+use Rattle.osn_grammar.specs.declared.text_reading.TextReading.TheVariants as written
 use Rattle.osn_written.specs.declared.any_date.AnyDate.{AnyDate}
-use Rattle.osn_territory.specs.declared.dated.DatedDay.{DatedDay}
+use Rattle.osn_territory.specs.declared.dating.DatedDay.{DatedDay}
 use Rattle.osn_territory.specs.declared.runs.Run.{Run}
 use Rattle.osn_territory.specs.Territory.{TerritoryModel}
 use Rattle.osn_written.specs.declared.absence.Absence.TheVariants as why
@@ -18,7 +18,7 @@ use Rattle.osn_written.specs.declared.written_date.DateFault.{DateFault}
 use Rattle.osn_written.specs.declared.written_date.DateFault.TheVariants as faults
 use Rattle.osn_written.specs.declared.written_date.WrittenDate.{WrittenDate}
 use Rattle.osn_written.specs.Absence.{absence}
-use Rattle.osn_written.specs.Finding.{extent_meant, is_by_other_calendar, reckoned}
+use Rattle.osn_written.specs.Finding.{extent_meant, is_by_other_calendar, with_reckoning}
 use Rattle.osn_written.specs.Double.{is_extent_not_counted_double}
 use Rattle.osn_written.specs.Meaning.{dated_by, meaning}
 use Rattle.osn_written.specs.PlainDay.{one_day}
@@ -289,10 +289,11 @@ members_apart p edition (Err reason) ws b =
     apart_those ((true, remark.NoPlace reason) ∷ beside_set b) (no_place_apart reason b)
 
 reading_apart : (p : Rules) (edition : ℕ) (t : Result TerritoryModel NoPlace)
-    (named : Option (List ℕ)) (ws : List AnyDate) (is_read : Bool) (r : Result Written DateFault)
+    (named : Option (List ℕ)) (ws : List AnyDate) (is_read : Bool)
+    (r : Result TextReading DateFault)
     → AreApart (fields_of_reading p edition t named ws is_read r).remarks
 reading_apart p edition (Ok t) named ws is_read (Ok (written.Date w)) =
-    either_apart p edition t (reckoned t w.reckoning) w (weekday_in named)
+    either_apart p edition t (with_reckoning t w.reckoning) w (weekday_in named)
     (w, weekday_in named, is_by_other_calendar p t w, is_malformed_weekday named) (one_day w)
 reading_apart p edition (Err reason) named ws is_read (Ok (written.Date w)) =
     let b : Beside = (w, weekday_in named, false, is_malformed_weekday named) in

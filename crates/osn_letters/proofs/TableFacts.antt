@@ -4,7 +4,7 @@ use Rattle.std.proofs.lemmas.Result.{on_ok_weaker}
 use Rattle.csv.specs.Writing.{row_text}
 use Rattle.csv.specs.declared.writer.WriterBuilder.{WriterBuilder}
 use Rattle.osn_days.specs.Rules.{Rules}
-use Rattle.osn_grammar.specs.declared.written.DateOrder.{DateOrder}
+use Rattle.osn_grammar.specs.declared.text_reading.DateOrder.{DateOrder}
 use Rattle.osn_register.specs.Plain.{EntryModel}
 use Rattle.osn_letters.specs.declared.separator.Separator.{Separator}
 use Rattle.osn_letters.specs.Fields.{row_fields}

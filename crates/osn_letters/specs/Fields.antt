@@ -12,13 +12,13 @@ use Rattle.osn_days.specs.Chain.{date_of}
 use Rattle.osn_days.specs.DateText.{text_of_date}
 use Rattle.osn_days.specs.Line.{julian_day, weekday}
 use Rattle.osn_days.specs.Weekday.{weekday_name, weekday_numbered}
-use Rattle.osn_grammar.specs.declared.written.DateOrder.{DateOrder}
-use Rattle.osn_grammar.specs.declared.written.Written.{Written}
-use Rattle.osn_grammar.specs.declared.written.Written.TheVariants as written
+use Rattle.osn_grammar.specs.declared.text_reading.DateOrder.{DateOrder}
+use Rattle.osn_grammar.specs.declared.text_reading.TextReading.{TextReading}
+use Rattle.osn_grammar.specs.declared.text_reading.TextReading.TheVariants as written
 use Rattle.osn_written.specs.declared.any_date.AnyDate.{AnyDate}
-use Rattle.osn_territory.specs.declared.dated.DatedDay.{DatedDay}
+use Rattle.osn_territory.specs.declared.dating.DatedDay.{DatedDay}
 use Rattle.osn_territory.specs.declared.runs.Run.{Run}
-use Rattle.osn_territory.specs.Dated.{dated_text}
+use Rattle.osn_territory.specs.Dating.{dated_text}
 use Rattle.osn_territory.specs.Territory.{TerritoryModel}
 use Rattle.osn_register.specs.Plain.{EntryModel}
 use Rattle.osn_written.specs.declared.finding.NoDay.{NoDay}
@@ -31,7 +31,7 @@ use Rattle.osn_written.specs.declared.written_date.DateFault.TheVariants.{NoDate
 use Rattle.osn_written.specs.declared.written_date.WrittenDate.{WrittenDate}
 use Rattle.osn_written.specs.Absence.{absence}
 use Rattle.osn_written.specs.Double.{is_extent_not_counted_double}
-use Rattle.osn_written.specs.Finding.{extent_meant, is_by_other_calendar, reckoned}
+use Rattle.osn_written.specs.Finding.{extent_meant, is_by_other_calendar, with_reckoning}
 use Rattle.osn_written.specs.Kind.{kind_of, kind_word}
 use Rattle.osn_written.specs.Meaning.{dated_by, meaning}
 use Rattle.osn_written.specs.PlainDay.{one_day}
@@ -207,7 +207,8 @@ fields_by p edition own t is_other w weekday_field =
 -- the fields and remarks of a date in its territory, by the calendar that it names
 abbrev pub fields_in : Rules → ℕ → TerritoryModel → AnyDate → Option (List ℕ) → FieldsAndRemarks
 fields_in p edition t w weekday_field =
-    fields_by p edition t (reckoned t w.reckoning) (is_by_other_calendar p t w) w weekday_field
+    fields_by p edition t (with_reckoning t w.reckoning)
+    (is_by_other_calendar p t w) w weekday_field
 
 -- ---- a set of dates
 
@@ -293,7 +294,7 @@ fields_without_text edition t weekday_field =
 
 -- of what the field of the date says, which may be a set of these dates, or no text
 abbrev pub fields_of_reading : Rules → ℕ → Result TerritoryModel NoPlace → Option (List ℕ)
-    → List AnyDate → Bool → Result Written DateFault → FieldsAndRemarks
+    → List AnyDate → Bool → Result TextReading DateFault → FieldsAndRemarks
 fields_of_reading p edition t weekday_field ws is_read (Ok (written.Date w)) =
     fields_of_date p edition t w weekday_field
 fields_of_reading p edition t weekday_field ws is_read (Ok written.Set) =

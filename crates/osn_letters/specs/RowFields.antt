@@ -7,8 +7,8 @@ use Rattle.std.specs.List.{prefix_len, suffix_len}
 use Rattle.std.specs.Option.{option_and_then}
 use Rattle.std.specs.Str.{is_utf8}
 use Rattle.osn_days.specs.declared.weekday.Weekday.{Weekday}
-use Rattle.osn_grammar.specs.declared.written.DateOrder.{DateOrder}
-use Rattle.osn_grammar.specs.declared.written.Written.{Written}
+use Rattle.osn_grammar.specs.declared.text_reading.DateOrder.{DateOrder}
+use Rattle.osn_grammar.specs.declared.text_reading.TextReading.{TextReading}
 use Rattle.osn_written.specs.declared.any_date.AnyDate.{AnyDate}
 use Rattle.osn_grammar.specs.Reading.{members, read_date}
 use Rattle.osn_territory.specs.Territory.{TerritoryModel}
@@ -43,11 +43,11 @@ abbrev pub is_text : List ℕ → Bool
 is_text bytes = is_some (text_in_field bytes)
 
 -- what the text of a field says of a date, or why it says nothing of one
-abbrev pub date_of_text : DateOrder → Option (List ℕ) → Result Written DateFault
+abbrev pub date_of_text : DateOrder → Option (List ℕ) → Result TextReading DateFault
 date_of_text order None = Err Malformed
 date_of_text order (Some text) = read_date order text
 
-abbrev pub date_of_field : DateOrder → List ℕ → Result Written DateFault
+abbrev pub date_of_field : DateOrder → List ℕ → Result TextReading DateFault
 date_of_field order field = date_of_text order (text_in_field field)
 
 -- the dates of the set that the text of a field is

@@ -7,7 +7,7 @@ use Rattle.std.specs.Prelude.{Option, Some, None, option_map, unwrap_or, Result,
 use Rattle.std.specs.Io.KnownBytes.{Appends, Consumes}
 use Rattle.csv.specs.Writing.{row_text}
 use Rattle.osn_days.specs.Rules.{Rules}
-use Rattle.osn_grammar.specs.declared.written.DateOrder.{DateOrder}
+use Rattle.osn_grammar.specs.declared.text_reading.DateOrder.{DateOrder}
 use Rattle.osn_register.specs.Plain.{EntryModel}
 use Rattle.osn_letters.specs.declared.columns.Columns.{Columns}
 use Rattle.osn_letters.specs.declared.record_flaw.RecordFlaw.{RecordFlaw}

@@ -17,7 +17,7 @@ use crate::set::fields_of_set;
 use crate::span::{NO_SPAN, span_of_days, span_of_runs};
 use crate::territory_finder::TerritoryFinder;
 use osn_days::Weekday;
-use osn_grammar::{DateOrder, Written};
+use osn_grammar::{DateOrder, TextReading};
 use osn_territory::{DatedDay, Run, Territory};
 use osn_written::{
     AnyDate, DateFault, Kind, NoDay, WrittenDate, absence_of, by_reckoning, dated_by, days_meant,
@@ -378,9 +378,9 @@ pub fn row_fields(
 {
     let territory = territories.find(alloc, places, place)?;
     match date_of_field(alloc, order, date)? {
-        Ok(Written::Date(date)) => fields_of_date(alloc, edition, territory, date, weekday),
-        Ok(Written::Set) => fields_of_set(alloc, edition, territory, date, weekday),
-        Ok(Written::NoDate) => {
+        Ok(TextReading::Date(date)) => fields_of_date(alloc, edition, territory, date, weekday),
+        Ok(TextReading::Set) => fields_of_set(alloc, edition, territory, date, weekday),
+        Ok(TextReading::NoDate) => {
             let place = place_remark(territory);
             fields_without_date(alloc, edition, DateFault::NoDate, place, weekday)
         }

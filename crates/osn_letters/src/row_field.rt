@@ -3,7 +3,7 @@ ghost use Rattle.std.specs.Prelude.{◌≡◌, option_map, IfOk};
 ghost use Rattle.osn_letters.specs.RowFields as spec;
 
 use osn_days::Weekday;
-use osn_grammar::{DateOrder, Written, members_of, read_date};
+use osn_grammar::{DateOrder, TextReading, members_of, read_date};
 use osn_written::{AnyDate, DateFault, weekday_named};
 use std::alloc::{AllocError, Global};
 use std::str;
@@ -34,7 +34,7 @@ pub(crate) fn date_of_field(
     alloc: Global,
     order: DateOrder,
     field: &[u8],
-) -> Result<Result<Written, DateFault>, AllocError>
+) -> Result<Result<TextReading, DateFault>, AllocError>
     ensures { IfOk result (λ date. date ≡ spec.date_of_field order field.now) }
 {
     match text_in_field(field) {

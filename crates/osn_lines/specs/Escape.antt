@@ -22,5 +22,5 @@ abbrev pub escaped_char : ℕ → List ℕ
 escaped_char c = if is_escaped c then escape_text c else encode_utf8 c
 
 -- a text with these characters escaped
-unfoldable pub escaped : List ℕ → List ℕ
-escaped text = flat_map escaped_char (chars text)
+unfoldable pub escaped_text : List ℕ → List ℕ
+escaped_text text = flat_map escaped_char (chars text)

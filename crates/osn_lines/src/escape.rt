@@ -10,15 +10,15 @@ use std::fmt;
 /// that change the direction of writing (UAX #9, table 1), and the ends of a line and of a
 /// paragraph, U+2028 and U+2029.
 #[derive(Clone, Copy)]
-pub struct Escaped<'a>(pub &'a str);
+pub struct EscapedText<'a>(pub &'a str);
 
 /// A text with lines that prints without acting on a terminal. Line feeds are written as they are,
-/// and other characters as in `Escaped`.
+/// and other characters as in `EscapedText`.
 #[derive(Clone, Copy)]
 pub struct EscapedLines<'a>(pub &'a str);
 
-impl<'a> fmt::Display for Escaped<'a> {
-    ghost output = { λ x. Some (spec.escaped x.0.now) };
+impl<'a> fmt::Display for EscapedText<'a> {
+    ghost output = { λ x. Some (spec.escaped_text x.0.now) };
 
     fn fmt<W: fmt::Write>(&self, f: &mut fmt::Formatter<W>) -> fmt::Result {
         for c in self.0.chars() {

@@ -2,7 +2,8 @@
 //! each line to what takes lines, and how a message quotes the text of a user. The crate guarantees
 //! that `take_lines` gives exactly the lines of the input, in order, in whatever pieces the bytes
 //! come. If it ends early, it returns the number of lines and why. `read_all` has all bytes of an
-//! input in memory. `Escaped` escapes what a terminal acts on, and `is_near` decides which name a
+//! input in memory. `EscapedText` escapes what a terminal acts on, and `is_near` decides which name
+//! a
 //! mistyped word may be meant for.
 #![tactic(auto)]
 
@@ -23,7 +24,7 @@ mod unended_line;
 mod whole;
 
 pub use bytes::Bytes;
-pub use escape::{Escaped, EscapedLines};
+pub use escape::{EscapedLines, EscapedText};
 pub use fault::{EndedEarly, TakeFault};
 pub use last_line_feed::ended_length;
 pub use line::{LONGEST_LINE, Line};

@@ -5,7 +5,8 @@ ghost use Rattle.std.specs.Prelude.{MatchResult, Some, None};
 ghost use Rattle.left_right.specs.Sides.{view};
 ghost use Rattle.osn_days.specs.Rules.{newest_rules};
 ghost use Rattle.osn_register.specs.Refusal.{IsCheckOf, IsRefusalOrNoMemory};
-ghost use Rattle.osn_core.specs.Sequential.{opened, with_pending, with_edition, stage_refusal};
+ghost use Rattle.osn_core.specs.Sequential.{empty_object, with_pending, with_edition};
+ghost use Rattle.osn_core.specs.Sequential.{stage_refusal};
 ghost use Rattle.osn_core.specs.Sequential.{publish_refusal, stage_after, publish_after};
 ghost use Rattle.osn_core.specs.Script.{command_after};
 ghost use Rattle.osn_live.specs.Certificate.{none_of};
@@ -101,7 +102,7 @@ impl Editor {
         requires edition { copies.desk.shown.value ≡ edition_of limits certificate }
         requires known { view copies.desk.place
             ≡ Some (origin_of (edition_of limits certificate)) }
-        ensures object { result.object ≡ opened limits }
+        ensures object { result.object ≡ empty_object limits }
         ensures origin { result.origin ≡ origin_of (edition_of limits certificate) }
     {
         Editor {

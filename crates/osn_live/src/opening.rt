@@ -1,7 +1,7 @@
 //! How a running register is opened: its editor, and a place for each reader.
 ghost use Rattle.std.specs.Prelude.{◌≡◌, ◌<◌, ◌≤◌, [], vec_len, IfOk, IfErr, OnOk, Err};
 ghost use Rattle.std.specs.List.{All};
-ghost use Rattle.osn_core.specs.Sequential.{opened};
+ghost use Rattle.osn_core.specs.Sequential.{empty_object};
 ghost use Rattle.osn_live.specs.Faults.{IsBadCount};
 ghost use Rattle.osn_live.specs.Running.{IsNew};
 
@@ -18,7 +18,7 @@ use std::sync::{Arc, Wait};
 
 fn start<R: Wait>(rt: &R, alloc: Global, limits: Limits, readers: u32) -> Result<Editor, AllocError>
     requires { 0 < readers }
-    ensures object { IfOk result (λ e. e.object ≡ opened limits) }
+    ensures object { IfOk result (λ e. e.object ≡ empty_object limits) }
     ensures limits { IfOk result (λ e. e.origin.limits ≡ limits) }
 {
     let (history, certificate) = begin();
@@ -69,7 +69,7 @@ pub fn open<R: Wait>(
 ) -> Result<(Editor, Vec<Reader>), OpenFault>
     ensures lawful { OnOk result ((1 ≤ readers) × (readers ≤ 64)) }
     ensures editor { IfOk result (λ t.
-        (t.0.object ≡ opened limits) × (t.0.origin.limits ≡ limits)) }
+        (t.0.object ≡ empty_object limits) × (t.0.origin.limits ≡ limits)) }
     ensures count { IfOk result (λ t. vec_len t.1 ≡ readers) }
     ensures readers { IfOk result (λ t. All (λ r. IsNew t.0 r) t.1.items) }
     ensures bad_count { IsBadCount readers → result ≡ Err OpenFault.BadCount }

@@ -5,7 +5,7 @@ use Rattle.osn_days.specs.declared.weekday.Weekday.{Weekday}
 use Rattle.osn_core.specs.Edition.{EditionModel, reply_in}
 use Rattle.osn_grammar.specs.ReadDate.{reading_by}
 use Rattle.osn_grammar.specs.Reading.{members}
-use Rattle.osn_grammar.specs.declared.written.Written.{Written}
+use Rattle.osn_grammar.specs.declared.text_reading.TextReading.{TextReading}
 use Rattle.osn_pages.specs.declared.page.Page.{Page}
 use Rattle.osn_pages.specs.declared.page.Page.TheVariants as pages
 use Rattle.osn_register.specs.declared.query.Query.{Query}
@@ -68,6 +68,6 @@ abbrev pub query_of_set : List ℕ → List ℕ → Option Weekday → Query
 query_of_set code text given = queries.Written code text (readings.Set (members text)) given
 
 -- the query of the page on a text, by what was read from it
-abbrev pub query_of_read : List ℕ → List ℕ → Result Written DateFault → Option Weekday → Query
+abbrev pub query_of_read : List ℕ → List ℕ → Result TextReading DateFault → Option Weekday → Query
 query_of_read code text date given =
     queries.Written code text (reading_by (members text) date) given

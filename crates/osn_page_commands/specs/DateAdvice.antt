@@ -6,10 +6,11 @@ use Rattle.std.specs.List.{list_any}
 use Rattle.std.specs.Result.{is_ok}
 use Rattle.osn_grammar.specs.ReadDate.{written_date}
 use Rattle.osn_grammar.specs.Reading.{read_date}
-use Rattle.osn_grammar.specs.declared.written.DateOrder.TheVariants.{Unknown, DayMonth, MonthDay}
-use Rattle.osn_grammar.specs.declared.written.Written.{Written}
-use Rattle.osn_grammar.specs.declared.written.Written.TheVariants as say
-use Rattle.osn_lines.specs.Escape.{escaped}
+use Rattle.osn_grammar.specs.declared.text_reading.DateOrder.TheVariants.{Unknown, DayMonth}
+use Rattle.osn_grammar.specs.declared.text_reading.DateOrder.TheVariants.{MonthDay}
+use Rattle.osn_grammar.specs.declared.text_reading.TextReading.{TextReading}
+use Rattle.osn_grammar.specs.declared.text_reading.TextReading.TheVariants as say
+use Rattle.osn_lines.specs.Escape.{escaped_text}
 use Rattle.osn_written.specs.WrittenDate.{month_day_words, number_of, parts_at}
 use Rattle.osn_written.specs.declared.any_date.Extent.{Extent}
 use Rattle.osn_written.specs.declared.any_date.Extent.TheVariants as extents
@@ -29,7 +30,7 @@ lacks_year text = is_ok (written_date (text ++ codes " 1752"))
 -- ---- a time is behind the date
 
 -- a text is a date, by some order of its numbers
-abbrev pub is_dated : Result Written DateFault → Bool
+abbrev pub is_dated : Result TextReading DateFault → Bool
 is_dated (Ok read) = true
 is_dated (Err faults.DayOrMonth) = true
 is_dated (Err fault) = false
@@ -58,12 +59,12 @@ number_help text =
 abbrev pub time_or_number : Option (List ℕ) → List ℕ → List ℕ
 time_or_number None text = number_help text
 time_or_number (Some date) text =
-    codes "help: leave out the time: " ++ (escaped date ++ codes "\n")
+    codes "help: leave out the time: " ++ (escaped_text date ++ codes "\n")
 
 abbrev pub form_help : List ℕ → List ℕ
 form_help text =
     if lacks_year text then codes "help: if the year is missing, write it too, as in "
-    ++ (escaped text ++ codes " 1752\n")
+    ++ (escaped_text text ++ codes " 1752\n")
     else time_or_number (date_before_time text) text
 
 -- ---- its numbers are in another order
@@ -74,7 +75,7 @@ day_of_extent (extents.On (partial.Day year month day)) =
     Some (record { month = month; day = day })
 day_of_extent other = None
 
-abbrev pub day_of_read : Result Written DateFault → Option days.MonthDay
+abbrev pub day_of_read : Result TextReading DateFault → Option days.MonthDay
 day_of_read (Ok (say.Date date)) = day_of_extent date.extent
 day_of_read read = None
 
@@ -116,7 +117,7 @@ month_help text =
 abbrev pub swapped_help : List ℕ → List ℕ
 swapped_help text =
     if is_some (month_in_date text)
-    then codes "help: write the year before the month " ++ (escaped text ++ codes "\n") else []
+    then codes "help: write the year before the month " ++ (escaped_text text ++ codes "\n") else []
 
 -- the line on two years with a slash between, or on a month, in the place of one year
 abbrev pub year_help : Option (List ℕ × List ℕ) → List ℕ → List ℕ

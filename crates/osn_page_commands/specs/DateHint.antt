@@ -4,7 +4,7 @@ use Rattle.std.specs.Prelude.{Option, Some, None, is_some}
 use Rattle.std.specs.Result.{is_ok}
 use Rattle.osn_grammar.specs.ReadDate.{written_date}
 use Rattle.osn_lines.specs.Near.{is_near}
-use Rattle.osn_lines.specs.Escape.{escaped}
+use Rattle.osn_lines.specs.Escape.{escaped_text}
 use Rattle.osn_written.specs.WrittenDate.{parts_at}
 use Rattle.osn_written.specs.declared.written_date.DateFault.TheVariants as faults
 use Rattle.osn_page_commands.specs.DateAdvice.{empty_help, form_help, month_help, order_help}
@@ -55,7 +55,7 @@ first_hint (word ∷ words) = hint_or word (nearest_name word) (first_hint words
 abbrev pub hint_line : Option (List ℕ × List ℕ) → List ℕ
 hint_line None = []
 hint_line (Some hint) = codes "help: "
-    ++ (escaped hint.0 ++ (codes ": did you mean " ++ (hint.1 ++ codes "?\n")))
+    ++ (escaped_text hint.0 ++ (codes ": did you mean " ++ (hint.1 ++ codes "?\n")))
 
 -- the line on the first word of a text that has a nearest name. Words are between spaces
 abbrev pub name_help : List ℕ → List ℕ

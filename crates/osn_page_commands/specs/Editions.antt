@@ -13,12 +13,12 @@ use Rattle.osn_report.specs.Messages.{EndsBy, ReportsIfMade}
 use Rattle.osn_report.specs.declared.fault.CommandFault.TheVariants as faults
 use Rattle.osn_report.specs.declared.status.Status.{Status}
 use Rattle.osn_report.specs.declared.status.Status.TheVariants as statuses
-use Rattle.osn_lines.specs.Escape.{escaped}
+use Rattle.osn_lines.specs.Escape.{escaped_text}
 
 -- the line on a word that is not the number of an edition
 unfoldable pub word_line : List ℕ → List ℕ
 word_line word = codes "oldstyle: "
-    ++ (escaped word
+    ++ (escaped_text word
     ++ codes ": an edition is a number, such as 3\n")
 
 -- it was reported that a word is not the number of an edition

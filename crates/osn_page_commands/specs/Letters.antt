@@ -7,7 +7,7 @@ use Rattle.std.specs.Option.{MatchOption}
 use Rattle.std.specs.Fmt.{decimal}
 use Rattle.std.specs.List.{list_any, starts_with}
 use Rattle.osn_days.specs.Rules.{newest_rules}
-use Rattle.osn_grammar.specs.declared.written.DateOrder.{DateOrder}
+use Rattle.osn_grammar.specs.declared.text_reading.DateOrder.{DateOrder}
 use Rattle.osn_register.specs.declared.limits.Limits.{Limits}
 use Rattle.osn_core.specs.Sequential.{ObjectState}
 use Rattle.osn_core.specs.Edition.{EditionModel}
@@ -33,7 +33,7 @@ use Rattle.osn_letters.specs.declared.separator.Separator.{Separator}
 use Rattle.osn_letters.specs.declared.settings.TableSettings.{TableSettings}
 use Rattle.osn_page_commands.specs.declared.letters.TableRules.{TableRules}
 use Rattle.osn_report.specs.Journal.{MakesObject, MakesNoObject}
-use Rattle.osn_lines.specs.Escape.{escaped}
+use Rattle.osn_lines.specs.Escape.{escaped_text}
 use Rattle.osn_report.specs.Printing.{EndsUnwritten, PrintsNoneAt}
 use Rattle.osn_report.specs.Messages.{EndsBy, Reports, ReportsIfMade, ReportsNothing}
 use Rattle.osn_report.specs.declared.fault.CommandFault.TheVariants.{File, NoMemory}
@@ -114,16 +114,16 @@ workbook_text = codes "the table is a workbook (.xlsx, .ods): save it as CSV in 
 -- the line on the column that may be meant, if one is near
 abbrev pub nearest_line : Option (List ℕ) → List ℕ
 nearest_line None = []
-nearest_line (Some name) = codes "help: did you mean " ++ (escaped name ++ codes "?\n")
+nearest_line (Some name) = codes "help: did you mean " ++ (escaped_text name ++ codes "?\n")
 
 -- the line on a header that lacks a column and has these
 abbrev pub columns_line : NameTexts → Column → ℕ → List ℕ → List ℕ
 columns_line names missing line found = codes "oldstyle: letters line "
     ++ (decimal line
     ++ (codes ": no column "
-    ++ (escaped (name_of names missing)
+    ++ (escaped_text (name_of names missing)
     ++ (codes ": the columns are "
-    ++ (escaped found ++ (codes ": name yours with " ++ (option_of missing ++ codes "\n")))))))
+    ++ (escaped_text found ++ (codes ": name yours with " ++ (option_of missing ++ codes "\n")))))))
 
 -- the lines on a header that lacks a column, and has one that may be meant or not
 abbrev pub lacks_lines : NameTexts → Column → ℕ → List ℕ → Option (List ℕ) → List ℕ

@@ -2,7 +2,7 @@
 -- places.
 use Rattle.std.specs.Prelude.{◌≡◌, ◌⊎◌, Bool, ℕ, List, [], ◌∷◌, Option, Some, None, IfSome, Ok}
 use Rattle.std.specs.Prelude.{MatchResult}
-use Rattle.osn_folder.specs.Folder.{CannotOpen, Changes, IsCauseAt, Known, Opens}
+use Rattle.osn_folder.specs.Folder.{CannotOpen, Changes, IsCauseAt, FolderModel, Opens}
 use Rattle.osn_folder.specs.declared.fault.OpenFailed.{OpenFailed}
 use Rattle.osn_invocation.specs.Invocation.{LettersModel}
 use Rattle.osn_letters.specs.PlaceEntries.{PlaceEntry}
@@ -65,7 +65,7 @@ abbrev pub PrintsTable : Limits → List ℕ → Option (List ℕ) → SettingsM
 PrintsTable limits journal None settings rules CanFail d i o e status = ReadsOne journal CanFail d
     (λ file. PrintsLetters limits journal file settings rules i o e status)
 PrintsTable limits journal (Some path) settings rules CanFail d i o e status =
-    (opened : Option Known) × Changes (Opens (journal ∷ [])) d.before opened
+    (opened : Option FolderModel) × Changes (Opens (journal ∷ [])) d.before opened
     × (file : Input) × IsReadOf d journal CanFail file
     × PrintsByPlaces limits journal file path settings rules CanFail
     (record { before = opened; after = d.after }) i o e status

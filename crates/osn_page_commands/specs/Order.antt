@@ -1,8 +1,9 @@
 -- In which order the three numbers of a date are read. This project's profile.
 use Rattle.std.specs.Prelude.{ℕ, if◌then◌else◌, List, codes, Option, Some, None, Result, Ok, Err}
 use Rattle.std.specs.Str.{bytes_eq}
-use Rattle.osn_grammar.specs.declared.written.DateOrder.{DateOrder}
-use Rattle.osn_grammar.specs.declared.written.DateOrder.TheVariants.{Unknown, DayMonth, MonthDay}
+use Rattle.osn_grammar.specs.declared.text_reading.DateOrder.{DateOrder}
+use Rattle.osn_grammar.specs.declared.text_reading.DateOrder.TheVariants.{Unknown, DayMonth}
+use Rattle.osn_grammar.specs.declared.text_reading.DateOrder.TheVariants.{MonthDay}
 use Rattle.osn_report.specs.declared.misuse.Misuse.{Misuse}
 use Rattle.osn_report.specs.declared.misuse.Misuse.TheVariants as misuses
 

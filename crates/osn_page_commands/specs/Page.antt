@@ -6,7 +6,7 @@ use Rattle.std.specs.Option.{MatchOption}
 use Rattle.std.specs.Fmt.{decimal}
 use Rattle.osn_pages.specs.Almanac.{almanac, almanac_refusal}
 use Rattle.osn_days.specs.Rules.{newest_rules}
-use Rattle.osn_register.specs.Answer.{listed}
+use Rattle.osn_register.specs.Answer.{land_of}
 use Rattle.osn_register.specs.Plain.{EntryModel, code_refusal}
 use Rattle.osn_register.specs.declared.limits.Limits.{Limits}
 use Rattle.osn_register.specs.declared.refusal.Refusal.{Refusal}
@@ -38,7 +38,7 @@ use Rattle.osn_page_commands.specs.declared.place.Place.TheVariants.{One, NotOne
 use Rattle.osn_report.specs.Fault.{by_read, numbered_line}
 use Rattle.osn_report.specs.Folders.{Folders, ReadsOne}
 use Rattle.osn_report.specs.Journal.{MakesObject, MakesNoObject}
-use Rattle.osn_lines.specs.Escape.{escaped}
+use Rattle.osn_lines.specs.Escape.{escaped_text}
 use Rattle.osn_report.specs.Printing.{PrintsIfMade, PrintsNone, PrintsOrReports}
 use Rattle.osn_report.specs.Messages.{EndsBy, ReportsIfMade, ReportsLine}
 use Rattle.osn_report.specs.declared.fault.CommandFault.{CommandFault}
@@ -89,13 +89,13 @@ page_status lacks status = status
 -- the words that a word can't be a code, and what a code is
 abbrev pub no_code : List ℕ → List ℕ
 no_code code =
-    escaped code ++ codes ": a code is 2 to 8 capital letters or digits, the first a letter"
+    escaped_text code ++ codes ": a code is 2 to 8 capital letters or digits, the first a letter"
 
 -- the words that no territory of a journal has the code, and which command lists the codes
 abbrev pub no_territory : List ℕ → List ℕ → List ℕ
 no_territory path code =
     codes "no territory has the code "
-    ++ (escaped code ++ (codes ": see oldstyle territory " ++ escaped path))
+    ++ (escaped_text code ++ (codes ": see oldstyle territory " ++ escaped_text path))
 
 -- the line on a refusal of a page on a territory: what was typed, and what to do
 abbrev pub territory_refusal_line : List ℕ → List ℕ → Refusal → List ℕ
@@ -166,7 +166,7 @@ PrintsPageOn s path word date topic (One code) o e status =
     PrintsPageOf s path code date topic o e status
 PrintsPageOn s path word date topic (NotOne named) o e status =
     (o.new ≡ o.old)
-    × ReportsIfMade e statuses.Refused (place_lines path word named (map listed s.territories))
+    × ReportsIfMade e statuses.Refused (place_lines path word named (map land_of s.territories))
     status
 
 -- what the word names: for an almanac it is a code, and the page of all territories is on none

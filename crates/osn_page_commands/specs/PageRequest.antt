@@ -9,8 +9,8 @@ use Rattle.osn_days.specs.Weekday.{weekday_name}
 use Rattle.osn_days.specs.declared.calendar.Calendar.{Calendar}
 use Rattle.osn_days.specs.declared.calendar.Calendar.TheVariants.{Gregorian}
 use Rattle.osn_days.specs.declared.weekday.Weekday.{Weekday}
-use Rattle.osn_grammar.specs.declared.written.Written.{Written}
-use Rattle.osn_grammar.specs.declared.written.Written.TheVariants as say
+use Rattle.osn_grammar.specs.declared.text_reading.TextReading.{TextReading}
+use Rattle.osn_grammar.specs.declared.text_reading.TextReading.TheVariants as say
 use Rattle.osn_written.specs.declared.any_date.AnyDate.{AnyDate}
 use Rattle.osn_pages.specs.Conversion.{days_of_written}
 use Rattle.osn_pages.specs.declared.page.Page.{Page}
@@ -53,7 +53,7 @@ date_of_word text = date_or_misuse (written_date text)
 
 -- a date with all that is written of it, which is required, and not a set. For one that may begin
 -- with its day or its month, an order may be given
-abbrev pub any_date_or_misuse : Result Written DateFault → Result AnyDate Misuse
+abbrev pub any_date_or_misuse : Result TextReading DateFault → Result AnyDate Misuse
 any_date_or_misuse (Ok (say.Date date)) = Ok date
 any_date_or_misuse (Ok say.Set) = Err (misuses.Date faults.NotOneDay)
 any_date_or_misuse (Ok say.NoDate) = Err (misuses.Date faults.NoDate)
@@ -104,7 +104,8 @@ topic_of_set name form = do
   Ok (Set weekday form)
 
 -- the page on what a text says
-abbrev pub topic_of_read : Result Written DateFault → Option (List ℕ) → Form → Result Topic Misuse
+abbrev pub topic_of_read : Result TextReading DateFault → Option (List ℕ) → Form
+    → Result Topic Misuse
 topic_of_read (Ok say.Set) name form = topic_of_set name form
 topic_of_read date name form = territory_topic (reading_of (any_date_or_misuse date) name) form
 

@@ -10,10 +10,10 @@ use Rattle.osn_written.specs.SetsMeant.{set_meant}
 use Rattle.osn_written.specs.declared.any_date.AnyDate.{AnyDate}
 use Rattle.osn_written.specs.declared.written_date.DateFault.{DateFault}
 use Rattle.osn_grammar.specs.Reading.{members, read_date}
-use Rattle.osn_grammar.specs.declared.written.Written.{Written}
-use Rattle.osn_grammar.specs.declared.written.Written.TheVariants as say
+use Rattle.osn_grammar.specs.declared.text_reading.TextReading.{TextReading}
+use Rattle.osn_grammar.specs.declared.text_reading.TextReading.TheVariants as say
 use Rattle.osn_territory.specs.Territory.{TerritoryModel}
-use Rattle.osn_register.specs.Named.{named_of}
+use Rattle.osn_register.specs.NamedTerritories.{named_of}
 use Rattle.osn_register.specs.Plain.{EntryModel}
 use Rattle.osn_register.specs.declared.query.Query.TheVariants as queries
 use Rattle.osn_register.specs.declared.refusal.Refusal.{Refusal}
@@ -26,7 +26,7 @@ use Rattle.osn_pages.specs.Territory.{territories_page}
 use Rattle.osn_pages.specs.YearPage.{year_page}
 use Rattle.osn_pages.specs.declared.page.Page.{Page}
 use Rattle.osn_pages.specs.declared.page.Page.TheVariants as pages
-use Rattle.osn_pages.specs.declared.page.Published.{Published}
+use Rattle.osn_pages.specs.declared.page.Publication.{Publication}
 use Rattle.osn_page_commands.specs.AnswerLine.{query_line, query_lines, query_of_page}
 use Rattle.osn_page_commands.specs.AnswerLine.{query_of_read, query_of_set, queries_of_year}
 use Rattle.osn_page_commands.specs.DateHint.{misuse_lines}
@@ -35,7 +35,7 @@ use Rattle.osn_page_commands.specs.declared.page_request.LineRules.{LineRules}
 use Rattle.osn_report.specs.declared.misuse.Misuse.{Misuse}
 
 -- what the heading and the end of a page say of an edition
-abbrev pub heading_of : EditionModel → Published
+abbrev pub heading_of : EditionModel → Publication
 heading_of edition = record { edition = edition.number; pending = edition.pending }
 
 -- ---- the page
@@ -73,7 +73,7 @@ page_or_reason s code text (Err misuse) = misuse_lines misuse text
 
 -- the page on what was read from the line, by the weekday that is given, if any
 abbrev pub page_of_read : EditionModel → List ℕ → List ℕ → Option Weekday
-    → Result Written DateFault → List ℕ
+    → Result TextReading DateFault → List ℕ
 page_of_read s code text given (Ok say.Set) = set_text s code text given false
 page_of_read s code text given read =
     page_or_reason s code text (reading_beside (any_date_or_misuse read) given)
@@ -122,7 +122,7 @@ abbrev pub page_fails : List EntryModel → List ℕ → Bool → Result Page Mi
 page_fails territories code is_strict (Ok page) = is_strict && lacks_day territories code page
 page_fails territories code is_strict (Err misuse) = true
 
-abbrev pub read_fails : List EntryModel → List ℕ → LineRules → List ℕ → Result Written DateFault
+abbrev pub read_fails : List EntryModel → List ℕ → LineRules → List ℕ → Result TextReading DateFault
     → Bool
 read_fails territories code rules text (Ok say.Set) =
     rules.form.is_strict && lacks_set territories code text

@@ -4,10 +4,10 @@ use Rattle.std.specs.Prelude.{◌++◌, length, map, find, Option, Some, None, i
 use Rattle.std.specs.List.{filter, flat_map, list_any, starts_with}
 use Rattle.std.specs.Str.{str_eq_ignore_ascii_case, str_to_ascii_lowercase}
 use Rattle.osn_lines.specs.Near.{is_near}
-use Rattle.osn_register.specs.Answer.{listed}
+use Rattle.osn_register.specs.Answer.{land_of}
 use Rattle.osn_register.specs.Plain.{EntryModel, entry_of}
 use Rattle.osn_register.specs.declared.answer.Land.{Land}
-use Rattle.osn_lines.specs.Escape.{escaped}
+use Rattle.osn_lines.specs.Escape.{escaped_text}
 use Rattle.osn_page_commands.specs.Pieces.{pieces}
 use Rattle.osn_page_commands.specs.declared.place.Place.{Place}
 use Rattle.osn_page_commands.specs.declared.place.Place.TheVariants.{One, NotOne}
@@ -21,7 +21,7 @@ is_called word territory =
 
 -- the territories that have the word as their code or their name
 abbrev pub territories_called : List ℕ → List EntryModel → List Land
-territories_called word territories = filter (is_called word) (map listed territories)
+territories_called word territories = filter (is_called word) (map land_of territories)
 
 -- the only one of these territories, by its code, or all of them
 abbrev pub only_of : List Land → Place
@@ -82,7 +82,8 @@ suggested word territories =
 
 -- a territory by its code and name: GB (Great Britain)
 abbrev pub territory_title : Land → List ℕ
-territory_title territory = territory.code ++ (codes " (" ++ (escaped territory.name ++ codes ")"))
+territory_title territory =
+    territory.code ++ (codes " (" ++ (escaped_text territory.name ++ codes ")"))
 
 -- one of the territories that a word may name
 abbrev pub note_line : Land → List ℕ
@@ -114,19 +115,21 @@ suggestion meant = suggestion_by (only_meant meant) meant
 -- a word that names no territory, and those that may be meant
 abbrev pub unknown_line : List ℕ → List Land → List ℕ
 unknown_line word meant =
-    codes "oldstyle: no territory has the code or the name " ++ (escaped word ++ suggestion meant)
+    codes "oldstyle: no territory has the code or the name " ++ (escaped_text word
+    ++ suggestion meant)
 
 -- the lines on a word that names none of these territories, with the path of the journal
 abbrev pub unknown_lines : List ℕ → List ℕ → List Land → List ℕ
 unknown_lines path word territories =
     unknown_line word (suggested word territories)
-    ++ (codes "help: oldstyle territory " ++ (escaped path ++ codes " lists the territories\n"))
+    ++ (codes "help: oldstyle territory " ++ (escaped_text path
+    ++ codes " lists the territories\n"))
 
 -- the lines on a word that names all of these
 abbrev pub several_lines : List ℕ → List Land → List ℕ
 several_lines word territories =
     codes "oldstyle: "
-    ++ (escaped word
+    ++ (escaped_text word
     ++ (codes ": several territories have this code or name: write the code of one\n"
     ++ flat_map note_line territories))
 

@@ -8,7 +8,7 @@ use Rattle.osn_letters.specs.RowFields.{territory_in}
 use Rattle.osn_letters.specs.declared.no_place.NoPlace.{NoPlace}
 use Rattle.osn_letters.specs.declared.no_place.NoPlace.TheVariants.{Unknown, Ambiguous, NotUtf8}
 use Rattle.osn_page_commands.specs.Place.{place_lines, territories_called}
-use Rattle.osn_register.specs.Answer.{listed}
+use Rattle.osn_register.specs.Answer.{land_of}
 use Rattle.osn_register.specs.Plain.{EntryModel}
 use Rattle.osn_register.specs.declared.answer.Land.{Land}
 
@@ -27,4 +27,4 @@ territories_meant Ambiguous place territories = territories_called place territo
 -- the lines on a place without a territory, with the path of the journal
 abbrev pub place_fault_lines : List ℕ → List ℕ → NoPlace → List EntryModel → List ℕ
 place_fault_lines path place reason territories =
-    place_lines path place (territories_meant reason place territories) (map listed territories)
+    place_lines path place (territories_meant reason place territories) (map land_of territories)

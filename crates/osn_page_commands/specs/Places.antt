@@ -13,7 +13,7 @@ use Rattle.osn_lines.specs.Streams.{Input, Output}
 use Rattle.osn_page_commands.specs.Letters.{is_wide, is_workbook, wide_text, workbook_text}
 use Rattle.osn_report.specs.Messages.{EndsBy, ReportsIfMade}
 use Rattle.osn_report.specs.OpenFailure.{open_failure_line}
-use Rattle.osn_lines.specs.Escape.{escaped}
+use Rattle.osn_lines.specs.Escape.{escaped_text}
 use Rattle.osn_report.specs.declared.fault.CommandFault.TheVariants.{NoMemory}
 use Rattle.osn_report.specs.declared.status.Status.{Status}
 use Rattle.osn_report.specs.declared.status.Status.TheVariants as statuses
@@ -29,18 +29,19 @@ IsPlacesFault table fault =
 -- the line on a line of the table of a path
 abbrev pub places_line : List ℕ → ℕ → List ℕ → List ℕ
 places_line path line text = codes "oldstyle: "
-    ++ (escaped path ++ (codes " line " ++ (decimal line ++ (codes ": " ++ (text ++ codes "\n")))))
+    ++ (escaped_text path ++ (codes " line " ++ (decimal line ++ (codes ": " ++ (text
+    ++ codes "\n")))))
 
 -- the line on a header that lacks a column and has these
 abbrev pub columns_line : List ℕ → PlacesColumn → ℕ → List ℕ → List ℕ
 columns_line path missing line found = codes "oldstyle: "
-    ++ (escaped path
+    ++ (escaped_text path
     ++ (codes " line "
     ++ (decimal line
     ++ (codes ": no column "
     ++ (column_name missing
     ++ (codes ": the columns are "
-    ++ (escaped found ++ (codes ": name one " ++ (column_name missing ++ codes "\n")))))))))
+    ++ (escaped_text found ++ (codes ": name one " ++ (column_name missing ++ codes "\n")))))))))
 
 -- the line on a header that lacks a column
 abbrev pub lacks_line : List ℕ → PlacesColumn → ℕ → List ℕ → List ℕ
@@ -52,7 +53,7 @@ lacks_line path missing line found =
 -- the line on a record whose number of fields is not that of the header, with both numbers
 abbrev pub fields_line : List ℕ → ℕ → ℕ → ℕ → List ℕ
 fields_line path line fields width = codes "oldstyle: "
-    ++ (escaped path
+    ++ (escaped_text path
     ++ (codes " line "
     ++ (decimal line
     ++ (codes ": a different number of fields than the header: "
@@ -62,11 +63,11 @@ fields_line path line fields width = codes "oldstyle: "
 -- the line on a place that has two codes
 abbrev pub codes_line : List ℕ → ℕ → List ℕ → List ℕ
 codes_line path line place = codes "oldstyle: "
-    ++ (escaped path
+    ++ (escaped_text path
     ++ (codes " line "
     ++ (decimal line
     ++ (codes ": the place "
-    ++ (escaped place ++ codes " has another code already: remove one of the two rows\n")))))
+    ++ (escaped_text place ++ codes " has another code already: remove one of the two rows\n")))))
 
 -- it was reported why the table of a path was not read
 abbrev pub ReportsPlaces : List ℕ → Output → PlacesFault → Status → Type 0

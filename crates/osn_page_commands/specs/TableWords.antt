@@ -3,7 +3,7 @@ use Rattle.std.specs.Prelude.{ℕ, Bool, if◌then◌else◌, List, [], codes, O
 use Rattle.std.specs.Prelude.{Ok, Err, is_some, unwrap_or}
 use Rattle.std.specs.Str.{bytes_eq}
 use Rattle.osn_grammar.specs.Simple.{◌>>=◌}
-use Rattle.osn_grammar.specs.declared.written.DateOrder.{DateOrder}
+use Rattle.osn_grammar.specs.declared.text_reading.DateOrder.{DateOrder}
 use Rattle.osn_invocation.specs.Invocation.{DateModel, LettersModel}
 use Rattle.osn_letters.specs.Columns.{DateTexts, OneText, PartTexts, NameTexts}
 use Rattle.osn_letters.specs.declared.separator.Separator.{Separator}

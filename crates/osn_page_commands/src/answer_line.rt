@@ -8,7 +8,7 @@ ghost use Rattle.osn_register.specs.BorrowedQuery.{as_query};
 
 use osn_core::Edition;
 use osn_days::{Weekday, Year};
-use osn_grammar::{Written, members_of};
+use osn_grammar::{TextReading, members_of};
 use osn_pages::Page;
 use osn_register::BorrowedQuery;
 use osn_service::{Outcome, reply_text};
@@ -162,15 +162,15 @@ pub(crate) fn year_lines(
 /// Returns what was read of a text, for a query.
 fn reading_by(
     alloc: Global,
-    date: Result<Written, DateFault>,
+    date: Result<TextReading, DateFault>,
     text: &str,
 ) -> Result<DateReading, AllocError>
     ensures { IfOk result (λ reading. reading ≡ reading_by (members text.now) date) }
 {
     match date {
-        Ok(Written::Date(date)) => Ok(DateReading::Date(date)),
-        Ok(Written::Set) => Ok(DateReading::Set(Listing::new(members_of(alloc, text)?))),
-        Ok(Written::NoDate) => Ok(DateReading::Fault(DateFault::NoDate)),
+        Ok(TextReading::Date(date)) => Ok(DateReading::Date(date)),
+        Ok(TextReading::Set) => Ok(DateReading::Set(Listing::new(members_of(alloc, text)?))),
+        Ok(TextReading::NoDate) => Ok(DateReading::Fault(DateFault::NoDate)),
         Err(fault) => Ok(DateReading::Fault(fault)),
     }
 }
@@ -181,7 +181,7 @@ pub(crate) fn read_line(
     edition: &Edition,
     code: &str,
     text: &str,
-    date: Result<Written, DateFault>,
+    date: Result<TextReading, DateFault>,
     weekday: Option<Weekday>,
 ) -> Result<String, AllocError>
     ensures { IfOk result (λ line. string_bytes line

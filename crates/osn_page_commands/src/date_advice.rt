@@ -7,8 +7,8 @@ ghost use Rattle.osn_written.specs.WrittenDate.{parts_at as parts_in};
 ghost use Rattle.osn_page_commands.specs.DateAdvice as spec;
 
 use crate::month_word::month_in_date;
-use osn_grammar::{DateOrder, Written, parse_day, read_date};
-use osn_lines::Escaped;
+use osn_grammar::{DateOrder, TextReading, parse_day, read_date};
+use osn_lines::EscapedText;
 use osn_written::{AnyDate, DateFault, Extent, MonthDay, PartialDate, number_of, parts_at};
 use std::alloc::{AllocError, Global};
 
@@ -21,7 +21,7 @@ fn lacks_year(alloc: Global, text: &str) -> Result<bool, AllocError>
 }
 
 /// Returns whether a text is a date, by some order of its numbers.
-fn is_dated(read: Result<Written, DateFault>) -> bool
+fn is_dated(read: Result<TextReading, DateFault>) -> bool
     ensures { result ≡ spec.is_dated read }
 {
     matches!(read, Ok(_) | Err(DateFault::DayOrMonth))
@@ -83,7 +83,7 @@ fn push_time_help(lines: &mut String, alloc: Global, text: &str) -> Result<(), A
         ++ spec.time_or_number (spec.date_before_time text.now) text.now) }
 {
     match date_before_time(alloc, text)? {
-        Some(date) => writeln!(lines, "help: leave out the time: {}", Escaped(date)),
+        Some(date) => writeln!(lines, "help: leave out the time: {}", EscapedText(date)),
         None => push_number_help(lines, text),
     }
 }
@@ -102,7 +102,7 @@ pub(crate) fn push_form_help(
         writeln!(
             lines,
             "help: if the year is missing, write it too, as in {} 1752",
-            Escaped(text)
+            EscapedText(text)
         )
     } else {
         push_time_help(lines, alloc, text)
@@ -110,12 +110,12 @@ pub(crate) fn push_form_help(
 }
 
 /// Returns the day and month of a date of one day.
-fn day_of_read(read: Result<Written, DateFault>) -> Option<MonthDay>
+fn day_of_read(read: Result<TextReading, DateFault>) -> Option<MonthDay>
     ensures { result ≡ spec.day_of_read read }
 {
     match read {
         Ok(
-            Written::Date(
+            TextReading::Date(
                 AnyDate {
                     extent: Extent::On(PartialDate::Day { month, day, .. }),
                     ..
@@ -206,7 +206,7 @@ fn push_swapped_help(lines: &mut String, alloc: Global, text: &str) -> Result<()
         writeln!(
             lines,
             "help: write the year before the month {}",
-            Escaped(text)
+            EscapedText(text)
         )
     } else {
         Ok(())

@@ -10,7 +10,7 @@ use crate::date_advice::{
 };
 use crate::month_word::month_in_date;
 use osn_grammar::parse_day;
-use osn_lines::{Escaped, Sink, is_near};
+use osn_lines::{EscapedText, Sink, is_near};
 use osn_report::{Misuse, Status, misuse_line, report_line};
 use osn_written::{DateFault, parts_at};
 use std::alloc::{AllocError, Global};
@@ -126,7 +126,7 @@ fn push_name_help(lines: &mut String, alloc: Global, text: &str) -> Result<(), A
         ≡ string_bytes lines.old ++ spec.name_help text.now) }
 {
     match first_hint(alloc, text)? {
-        Some((word, name)) => writeln!(lines, "help: {}: did you mean {name}?", Escaped(word)),
+        Some((word, name)) => writeln!(lines, "help: {}: did you mean {name}?", EscapedText(word)),
         None => Ok(()),
     }
 }
@@ -172,7 +172,7 @@ fn push_word_help(
         ++ spec.word_help (map (λ name. name.now) names.now) word.now) }
 {
     match nearest_of(alloc, word, names)? {
-        Some(name) => writeln!(lines, "help: {}: did you mean {name}?", Escaped(word)),
+        Some(name) => writeln!(lines, "help: {}: did you mean {name}?", EscapedText(word)),
         None => Ok(()),
     }
 }
@@ -184,7 +184,7 @@ fn push_date_help(lines: &mut String, alloc: Global, text: &str) -> Result<(), A
         ≡ string_bytes lines.old ++ spec.date_help text.now) }
 {
     match first_hint(alloc, text)? {
-        Some((word, name)) => writeln!(lines, "help: {}: did you mean {name}?", Escaped(word)),
+        Some((word, name)) => writeln!(lines, "help: {}: did you mean {name}?", EscapedText(word)),
         None => push_form_help(lines, alloc, text),
     }
 }

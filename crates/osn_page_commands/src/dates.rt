@@ -14,7 +14,7 @@ use crate::page_text::{entry_text, lacks_day, lacks_set, set_text};
 use crate::read_request::{any_date_or_misuse, reading_beside};
 use osn_core::Edition;
 use osn_days::Weekday;
-use osn_grammar::{Written, read_date};
+use osn_grammar::{TextReading, read_date};
 use osn_pages::Page;
 use osn_register::{Refusal, Register};
 use osn_report::Misuse;
@@ -54,7 +54,7 @@ fn page_of_read(
     code: &str,
     text: &str,
     weekday: Option<Weekday>,
-    date: Result<Written, DateFault>,
+    date: Result<TextReading, DateFault>,
 ) -> Result<String, Refusal>
     ensures text { IfOk result (λ lines. string_bytes lines
         ≡ spec.page_of_read (edition_model edition.now) code.now text.now weekday date) }
@@ -62,7 +62,7 @@ fn page_of_read(
         (spec.IsRefusalOrLack (code_refusal (edition_model edition.now).territories code.now)) }
 {
     match date {
-        Ok(Written::Set) => set_text(alloc, edition, code, text, weekday, false),
+        Ok(TextReading::Set) => set_text(alloc, edition, code, text, weekday, false),
         _ => {
             let page = reading_beside(any_date_or_misuse(date), weekday);
             page_or_reason(alloc, edition, code, text, page)
@@ -179,7 +179,7 @@ fn read_fails(
     code: &str,
     rules: LineRules,
     text: &str,
-    date: Result<Written, DateFault>,
+    date: Result<TextReading, DateFault>,
 ) -> Result<bool, Refusal>
     ensures value { IfOk result (λ fails. fails
         ≡ spec.read_fails register.now.territories code.now rules text.now date) }
@@ -187,8 +187,8 @@ fn read_fails(
         (IsRefusalOrNoMemory (code_refusal register.now.territories code.now)) }
 {
     match date {
-        Ok(Written::Set) if rules.form.is_strict => lacks_set(alloc, register, code, text),
-        Ok(Written::Set) => Ok(false),
+        Ok(TextReading::Set) if rules.form.is_strict => lacks_set(alloc, register, code, text),
+        Ok(TextReading::Set) => Ok(false),
         _ => {
             let page = reading_beside(any_date_or_misuse(date), rules.weekday);
             page_fails(alloc, register, code, rules.form.is_strict, page)

@@ -4,7 +4,7 @@ ghost use Rattle.osn_lines.specs.Streams.{output_of};
 ghost use Rattle.osn_page_commands.specs.Editions as spec;
 
 use osn_core::EditionFault;
-use osn_lines::{Escaped, Sink};
+use osn_lines::{EscapedText, Sink};
 use osn_report::{Status, report_line, report_no_memory};
 use std::alloc::{AllocError, Global};
 
@@ -13,7 +13,7 @@ use std::alloc::{AllocError, Global};
 fn word_line(alloc: Global, word: &str) -> Result<String, AllocError>
     ensures { IfOk result (λ line. string_bytes line ≡ spec.word_line word.now) }
 {
-    let word = Escaped(word);
+    let word = EscapedText(word);
     format!(in alloc; "oldstyle: {word}: an edition is a number, such as 3\n")
 }
 

@@ -9,17 +9,17 @@ use crate::answer_line::{page_line, query_line, set_line, year_lines};
 use osn_core::Edition;
 use osn_days::{Weekday, Year};
 use osn_pages::{
-    Page, Published, has_no_day, page_text, set_has_no_day, set_page_text, territories_page,
+    Page, Publication, has_no_day, page_text, set_has_no_day, set_page_text, territories_page,
     year_page_text,
 };
 use osn_register::{BorrowedQuery, Refusal, Register};
 use std::alloc::{AllocError, Global};
 
 /// Returns the number of an edition, and how many edits are pending.
-fn heading_of(edition: &Edition) -> Published
+fn heading_of(edition: &Edition) -> Publication
     ensures { result ≡ spec.heading_of (edition_model edition.now) }
 {
-    Published {
+    Publication {
         edition: edition.number(),
         pending: edition.pending(),
     }

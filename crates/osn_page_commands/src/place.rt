@@ -40,7 +40,7 @@ pub(crate) fn territories_called(register: &Register, word: &str) -> Result<Vec<
     ensures { IfOk result (λ territories.
         territories.items ≡ spec.territories_called word.now register.now.territories) }
 {
-    let mut territories = register.listed()?;
+    let mut territories = register.list_territories()?;
     territories.retain(|territory| is_called(word, territory));
     Ok(territories)
 }

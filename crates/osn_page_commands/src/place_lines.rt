@@ -2,11 +2,11 @@
 ghost use Rattle.std.specs.Prelude.{◌≡◌, ◌++◌, map, option_map, IfOk, OnOk};
 ghost use Rattle.std.specs.Prelude.{string_bytes};
 ghost use Rattle.std.specs.List.{flat_map};
-ghost use Rattle.osn_register.specs.Answer.{listed};
+ghost use Rattle.osn_register.specs.Answer.{land_of};
 ghost use Rattle.osn_page_commands.specs.Place as spec;
 
 use crate::place::suggested_territories;
-use osn_lines::Escaped;
+use osn_lines::EscapedText;
 use osn_register::{Land, Register};
 use std::alloc::{AllocError, Global};
 use std::fmt;
@@ -23,7 +23,7 @@ impl<'a> fmt::Display for TerritoryTitle<'a> {
     ghost output = { λ x. Some (territory_title x.0.now) };
 
     fn fmt<W: fmt::Write>(&self, f: &mut fmt::Formatter<W>) -> fmt::Result {
-        let name = Escaped(self.0.name.as_str());
+        let name = EscapedText(self.0.name.as_str());
         write!(f, "{} ({name})", self.0.code.as_str())
     }
 }
@@ -90,7 +90,7 @@ fn unknown_line(alloc: Global, word: &str, suggested: &[Land]) -> Result<String,
     ensures { IfOk result
         (λ line. string_bytes line ≡ spec.unknown_line word.now suggested.now) }
 {
-    let word = Escaped(word);
+    let word = EscapedText(word);
     let mut line = format!(in alloc; "oldstyle: no territory has the code or the name {word}")?;
     push_suggestion(&mut line, suggested)?;
     Ok(line)
@@ -108,7 +108,7 @@ fn unknown_lines(
 {
     let suggested = suggested_territories(alloc, word, territories)?;
     let mut lines = unknown_line(alloc, word, suggested.as_slice())?;
-    let path = Escaped(path);
+    let path = EscapedText(path);
     writeln!(
         lines,
         "help: oldstyle territory {path} lists the territories"
@@ -121,7 +121,7 @@ fn several_lines(alloc: Global, word: &str, territories: &[Land]) -> Result<Stri
     ensures { IfOk result
         (λ lines. string_bytes lines ≡ spec.several_lines word.now territories.now) }
 {
-    let word = Escaped(word);
+    let word = EscapedText(word);
     let mut lines = format!(in alloc;
         "oldstyle: {word}: several territories have this code or name: write the code of one\n"
     )?;
@@ -139,10 +139,10 @@ pub(crate) fn place_lines(
     register: &Register,
 ) -> Result<String, AllocError>
     ensures { IfOk result (λ lines. string_bytes lines
-        ≡ spec.place_lines path.now word.now matches.now (map listed register.now.territories)) }
+        ≡ spec.place_lines path.now word.now matches.now (map land_of register.now.territories)) }
 {
     if matches.is_empty() {
-        let territories = register.listed()?;
+        let territories = register.list_territories()?;
         unknown_lines(alloc, path, word, territories.as_slice())
     } else {
         several_lines(alloc, word, matches)

@@ -8,7 +8,7 @@ ghost use Rattle.osn_report.specs.declared.status.Status.{Status};
 use crate::table_faults::{WIDE, WORKBOOK, is_wide, is_workbook};
 use osn_folder::OpenFailed;
 use osn_letters::{PlacesColumn, PlacesFault};
-use osn_lines::{Escaped, Sink};
+use osn_lines::{EscapedText, Sink};
 use osn_report::{Status, report_line, report_no_memory, report_open_failure};
 use std::alloc::{AllocError, Global};
 
@@ -27,7 +27,7 @@ fn places_line(alloc: Global, path: &str, line: u64, text: &str) -> Result<Strin
     ensures { IfOk result
         (λ message. string_bytes message ≡ spec.places_line path.now line text.now) }
 {
-    format!(in alloc; "oldstyle: {} line {line}: {text}\n", Escaped(path))
+    format!(in alloc; "oldstyle: {} line {line}: {text}\n", EscapedText(path))
 }
 
 /// Returns the line on a header that lacks a column, with the names that it has.
@@ -44,8 +44,8 @@ fn columns_line(
     let name = column.name();
     format!(in alloc;
         "oldstyle: {} line {line}: no column {name}: the columns are {}: name one {name}\n",
-        Escaped(path),
-        Escaped(header)
+        EscapedText(path),
+        EscapedText(header)
     )
 }
 
@@ -84,7 +84,7 @@ fn fields_line(
     format!(in alloc;
         "oldstyle: {} line {line}: a different number of fields than the header: {fields} \
 instead of {width}: give each row as many\n",
-        Escaped(path)
+        EscapedText(path)
     )
 }
 
@@ -96,8 +96,8 @@ fn codes_line(alloc: Global, path: &str, line: u64, place: &str) -> Result<Strin
     format!(in alloc;
         "oldstyle: {} line {line}: the place {} has another code already: remove one of the \
 two rows\n",
-        Escaped(path),
-        Escaped(place)
+        EscapedText(path),
+        EscapedText(place)
     )
 }
 

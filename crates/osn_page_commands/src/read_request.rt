@@ -5,20 +5,20 @@ ghost use Rattle.osn_page_commands.specs.PageRequest as spec;
 use crate::order::order_of_word;
 use crate::page_request::{Form, LineRules, Topic, territory_topic};
 use osn_days::Weekday;
-use osn_grammar::{Written, read_date};
+use osn_grammar::{TextReading, read_date};
 use osn_pages::Page;
 use osn_report::Misuse;
 use osn_written::{AnyDate, DateFault, weekday_named};
 use std::alloc::{AllocError, Global};
 
 /// Returns the date that was read from a text, which must contain one that is not a set.
-pub(crate) fn any_date_or_misuse(date: Result<Written, DateFault>) -> Result<AnyDate, Misuse>
+pub(crate) fn any_date_or_misuse(date: Result<TextReading, DateFault>) -> Result<AnyDate, Misuse>
     ensures { result ≡ spec.any_date_or_misuse date }
 {
     match date {
-        Ok(Written::Date(date)) => Ok(date),
-        Ok(Written::Set) => Err(Misuse::Date(DateFault::NotOneDay)),
-        Ok(Written::NoDate) => Err(Misuse::Date(DateFault::NoDate)),
+        Ok(TextReading::Date(date)) => Ok(date),
+        Ok(TextReading::Set) => Err(Misuse::Date(DateFault::NotOneDay)),
+        Ok(TextReading::NoDate) => Err(Misuse::Date(DateFault::NoDate)),
         Err(DateFault::DayOrMonth) => Err(Misuse::OpenOrder),
         Err(fault) => Err(Misuse::Date(fault)),
     }
@@ -88,7 +88,7 @@ fn topic_of_set(name: Option<&str>, form: Form) -> Result<Topic, Misuse>
 
 /// Returns the page on what was read from a text, by the weekday of that name, if there is a name.
 fn topic_of_read(
-    date: Result<Written, DateFault>,
+    date: Result<TextReading, DateFault>,
     name: Option<&str>,
     form: Form,
 ) -> Result<Topic, Misuse>
@@ -96,7 +96,7 @@ fn topic_of_read(
         ≡ spec.topic_of_read date (option_map (λ name. name.now) name.entry) form }
 {
     match date {
-        Ok(Written::Set) => topic_of_set(name, form),
+        Ok(TextReading::Set) => topic_of_set(name, form),
         _ => territory_topic(reading_of(any_date_or_misuse(date), name), form),
     }
 }

@@ -3,7 +3,7 @@ ghost use Rattle.std.specs.Prelude.{◌≡◌, ◌++◌, IfOk, OnOk, string_byte
 ghost use Rattle.osn_page_commands.specs.Page as spec;
 
 use crate::page_request::Topic;
-use osn_lines::Escaped;
+use osn_lines::EscapedText;
 use osn_register::Refusal;
 use osn_report::refusal_number_line;
 use std::alloc::{AllocError, Global};
@@ -21,7 +21,7 @@ impl<'a> fmt::Display for NoCode<'a> {
     ghost output = { λ x. Some (no_code x.0.now) };
 
     fn fmt<W: fmt::Write>(&self, f: &mut fmt::Formatter<W>) -> fmt::Result {
-        let code = Escaped(self.0);
+        let code = EscapedText(self.0);
         write!(
             f,
             "{code}: a code is 2 to 8 capital letters or digits, the first a letter"
@@ -43,8 +43,8 @@ impl<'a> fmt::Display for NoTerritory<'a> {
     ghost output = { λ x. Some (no_territory x.path.now x.code.now) };
 
     fn fmt<W: fmt::Write>(&self, f: &mut fmt::Formatter<W>) -> fmt::Result {
-        let code = Escaped(self.code);
-        let path = Escaped(self.path);
+        let code = EscapedText(self.code);
+        let path = EscapedText(self.path);
         write!(
             f,
             "no territory has the code {code}: see oldstyle territory {path}"

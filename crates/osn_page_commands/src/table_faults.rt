@@ -8,7 +8,7 @@ ghost use Rattle.osn_report.specs.declared.status.Status.{Status};
 
 use osn_files::FileFault;
 use osn_letters::{AddedColumn, Column, ColumnNames, DateNames, LettersFault, WeekdayName};
-use osn_lines::{Escaped, Sink};
+use osn_lines::{EscapedText, Sink};
 use osn_register::Text;
 use osn_report::{CommandFault, Status, report, report_line, report_no_memory};
 use std::alloc::{AllocError, Global};
@@ -119,8 +119,8 @@ fn columns_line(
     format!(in alloc;
         "oldstyle: letters line {line}: no column {}: the columns are {}: \
 name yours with {option}\n",
-        Escaped(name),
-        Escaped(header)
+        EscapedText(name),
+        EscapedText(header)
     )
 }
 
@@ -130,7 +130,7 @@ fn push_nearest(lines: &mut String, nearest: &Option<Text>) -> Result<(), AllocE
         ≡ string_bytes lines.old ++ spec.nearest_line nearest.now) }
 {
     match nearest {
-        Some(name) => writeln!(lines, "help: did you mean {}?", Escaped(name.as_str())),
+        Some(name) => writeln!(lines, "help: did you mean {}?", EscapedText(name.as_str())),
         None => Ok(()),
     }
 }

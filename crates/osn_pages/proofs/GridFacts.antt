@@ -7,7 +7,7 @@ use Rattle.std.specs.List.{flat_map}
 use Rattle.std.specs.Fmt.{styled_decimal, format_spec, decimal}
 use Rattle.std.proofs.Padding.{padded_integral_right}
 use Rattle.std.proofs.lemmas.List.{get_or_default}
-use Rattle.osn_territory.specs.declared.dated.DatedDay.{DatedDay}
+use Rattle.osn_territory.specs.declared.dating.DatedDay.{DatedDay}
 use Rattle.osn_pages.specs.Grid as spec
 
 -- ---- pieces

@@ -29,7 +29,7 @@ use Rattle.osn_register.specs.Plain.{AreSound, is_off_line}
 use Rattle.osn_register.specs.Refusal.{first_refusal, or_else}
 use Rattle.osn_register.specs.Sources.{SourcesModel}
 use Rattle.osn_register.proofs.CoverFacts.{period_on-place}
-use Rattle.osn_territory.specs.Dated.{dated_on}
+use Rattle.osn_territory.specs.Dating.{dated_on}
 use Rattle.osn_pages.specs.Law.{periods_in, ArePeriodsAnswered}
 use Rattle.osn_pages.specs.Page.{day_lines, AnswersPeriods}
 use Rattle.osn_pages.specs.Periods.{period_lines}

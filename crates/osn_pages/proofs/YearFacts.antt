@@ -5,7 +5,7 @@ use Rattle.std.specs.List.{range_with_len}
 use Rattle.std.proofs.lemmas.List.Concat.{flat_map-cons}
 use Rattle.osn_days.specs.Rules.{Rules}
 use Rattle.osn_territory.specs.declared.runs.Run.{Run}
-use Rattle.osn_territory.specs.Dated.{dated_on}
+use Rattle.osn_territory.specs.Dating.{dated_on}
 use Rattle.osn_territory.specs.Runs.{days_in, days_of_run, AreRuns, AreRunsAfter}
 use Rattle.osn_territory.specs.Territory.{TerritoryModel}
 use Rattle.osn_pages.specs.Why as spec

@@ -18,7 +18,7 @@ use Rattle.osn_days.specs.DateText.{text_of_date}
 use Rattle.osn_days.specs.Month.{month_name}
 use Rattle.osn_days.specs.Rules.{Rules}
 use Rattle.osn_territory.specs.declared.period.Period.{Period}
-use Rattle.osn_territory.specs.Dated.{dated_day, dated_on, dated_text}
+use Rattle.osn_territory.specs.Dating.{dated_day, dated_on, dated_text}
 use Rattle.osn_territory.specs.Easters.{easters}
 use Rattle.osn_territory.specs.Exceptions.{exception_of}
 use Rattle.osn_territory.specs.StyleWords.{style_word}
@@ -26,7 +26,7 @@ use Rattle.osn_territory.specs.Territory.{TerritoryModel, periods_of, reading}
 use Rattle.osn_register.specs.declared.refusal.Refusal.{Refusal}
 use Rattle.osn_register.specs.Answer.{period_source, easter_source}
 use Rattle.osn_register.specs.QueryRefusal.{easter_refusal}
-use Rattle.osn_register.specs.Named.{named_of}
+use Rattle.osn_register.specs.NamedTerritories.{named_of}
 use Rattle.osn_register.specs.Plain.{EntryModel, sources_of}
 use Rattle.osn_register.specs.Sources.{SourcesModel}
 use Rattle.osn_pages.specs.SourceLine.{source_text}

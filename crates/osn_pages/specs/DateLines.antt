@@ -7,7 +7,7 @@ use Rattle.osn_days.specs.declared.weekday.Weekday.{Weekday}
 use Rattle.osn_days.specs.Rules.{Rules}
 use Rattle.osn_written.specs.declared.any_date.Extent.{Extent}
 use Rattle.osn_written.specs.declared.any_date.AnyDate.{AnyDate}
-use Rattle.osn_territory.specs.declared.dated.DatedDay.{DatedDay}
+use Rattle.osn_territory.specs.declared.dating.DatedDay.{DatedDay}
 use Rattle.osn_territory.specs.declared.runs.Run.{Run}
 use Rattle.osn_territory.specs.Territory.{TerritoryModel}
 use Rattle.osn_register.specs.Sources.{SourcesModel}
@@ -18,7 +18,7 @@ use Rattle.osn_written.specs.declared.finding.NoDay.TheVariants.{OffTheLine, NoF
 use Rattle.osn_written.specs.declared.kind.Kind.{Kind}
 use Rattle.osn_written.specs.declared.kind.Kind.TheVariants as kinds
 use Rattle.osn_written.specs.declared.written_date.WrittenDate.{WrittenDate}
-use Rattle.osn_written.specs.Finding.{extent_meant, reckoned, ends_of, first_day_of}
+use Rattle.osn_written.specs.Finding.{extent_meant, with_reckoning, ends_of, first_day_of}
 use Rattle.osn_written.specs.Kind.{kind_of}
 use Rattle.osn_written.specs.Meaning.{dated_by, meaning}
 use Rattle.osn_written.specs.PlainDay.{one_day}
@@ -77,8 +77,9 @@ lines_of p own t sources w given None =
 -- if the date names a calendar, it is read as if the place had used that one
 abbrev pub date_lines : Rules → TerritoryModel → Option SourcesModel → AnyDate → Option Weekday
     → List ℕ
-date_lines p t sources w given = lines_of p t (reckoned t w.reckoning) sources w given (one_day w)
+date_lines p t sources w given =
+    lines_of p t (with_reckoning t w.reckoning) sources w given (one_day w)
 
 -- the date means no day
 abbrev pub has_no_day : Rules → TerritoryModel → AnyDate → Bool
-has_no_day p t w = is_err (extent_meant p (reckoned t w.reckoning) w.extent)
+has_no_day p t w = is_err (extent_meant p (with_reckoning t w.reckoning) w.extent)

@@ -6,8 +6,8 @@ use Rattle.std.specs.Fmt.{decimal}
 use Rattle.std.specs.List.{flat_map}
 use Rattle.osn_days.specs.Line.{weekday}
 use Rattle.osn_days.specs.Month.{month_name}
-use Rattle.osn_territory.specs.declared.dated.DatedDay.{DatedDay}
-use Rattle.osn_territory.specs.Dated.{years_text}
+use Rattle.osn_territory.specs.declared.dating.DatedDay.{DatedDay}
+use Rattle.osn_territory.specs.Dating.{years_text}
 
 -- ---- days in pieces
 
@@ -52,13 +52,13 @@ month_year x = month_name x.label.month ++ (codes " " ++ years_text x)
 
 -- a title of ASCII, centred in the 20 characters of a grid as `cal` does. Half of the remaining
 -- spaces, rounded down, are before it. A longer title has none before it.
-unfoldable pub centred : List ℕ → List ℕ
-centred title = replicate ((20 - length title) / 2) 32 ++ (title ++ codes "\n")
+unfoldable pub title_row : List ℕ → List ℕ
+title_row title = replicate ((20 - length title) / 2) 32 ++ (title ++ codes "\n")
 
 -- the title of a run of days: the month and year of its first day
 abbrev pub title_line : List DatedDay → List ℕ
 title_line [] = []
-title_line (first ∷ days) = centred (month_year first)
+title_line (first ∷ days) = title_row (month_year first)
 
 -- a number's digits, after as many spaces as bring them to two places
 abbrev pub in_two_places : ℕ → List ℕ

@@ -5,16 +5,16 @@ use Rattle.std.specs.List.{flat_map}
 use Rattle.std.specs.Option.{option_to_list}
 use Rattle.osn_days.specs.declared.weekday.Weekday.{Weekday}
 use Rattle.osn_days.specs.Rules.{Rules}
-use Rattle.osn_territory.specs.Dated.{dated_on}
+use Rattle.osn_territory.specs.Dating.{dated_on}
 use Rattle.osn_territory.specs.Runs.{days_of_month}
 use Rattle.osn_territory.specs.Territory.{TerritoryModel, periods_of}
 use Rattle.osn_register.specs.Answer.{period_on}
-use Rattle.osn_register.specs.Named.{named_of}
+use Rattle.osn_register.specs.NamedTerritories.{named_of}
 use Rattle.osn_register.specs.Plain.{EntryModel, sources_of}
 use Rattle.osn_register.specs.Sources.{SourcesModel}
 use Rattle.osn_pages.specs.declared.page.Page.{Page}
 use Rattle.osn_pages.specs.declared.page.Page.TheVariants as pages
-use Rattle.osn_pages.specs.declared.page.Published.{Published}
+use Rattle.osn_pages.specs.declared.page.Publication.{Publication}
 use Rattle.osn_pages.specs.DateLines.{date_lines}
 use Rattle.osn_pages.specs.Grid.{grids}
 use Rattle.osn_pages.specs.Heading.{territory_heading, heading, pending_line}
@@ -54,14 +54,14 @@ page_lines p name t sources code edition pages.Periods =
 
 -- the lines, of the name, the territory and the sources of the code, and how many edits wait
 abbrev pub page_of_territory : Rules → Option (List ℕ × TerritoryModel) → Option SourcesModel
-    → List ℕ → Published → Page → List ℕ
+    → List ℕ → Publication → Page → List ℕ
 page_of_territory p None sources code published page = []
 page_of_territory p (Some named) sources code published page =
     page_lines p named.0 named.1 sources code published.edition page
     ++ pending_line published.pending
 
 -- the text of a page. A code that no territory has is refused
-abbrev pub page_text : Rules → List EntryModel → List ℕ → Published → Page → List ℕ
+abbrev pub page_text : Rules → List EntryModel → List ℕ → Publication → Page → List ℕ
 page_text p territories code published page =
     page_of_territory p (named_of code territories) (sources_of code territories) code published
     page

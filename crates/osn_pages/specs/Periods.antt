@@ -5,7 +5,7 @@ use Rattle.osn_computus.specs.RuleWords.{rule_word}
 use Rattle.osn_days.specs.CalendarWords.{calendar_word}
 use Rattle.osn_days.specs.Rules.{Rules}
 use Rattle.osn_territory.specs.declared.period.Period.{Period}
-use Rattle.osn_territory.specs.Dated.{dated_day}
+use Rattle.osn_territory.specs.Dating.{dated_day}
 use Rattle.osn_territory.specs.StyleWords.{style_word, beginning_of_year}
 use Rattle.osn_register.specs.Answer.{period_source}
 use Rattle.osn_register.specs.Sources.{SourcesModel}

@@ -8,8 +8,8 @@ use Rattle.osn_days.specs.declared.calendar.Calendar.TheVariants.{Gregorian, Jul
 use Rattle.osn_days.specs.declared.weekday.Weekday.{Weekday}
 use Rattle.osn_days.specs.Line.{julian_day}
 use Rattle.osn_days.specs.Weekday.{weekday_name}
-use Rattle.osn_territory.specs.declared.dated.DatedDay.{DatedDay}
-use Rattle.osn_territory.specs.Dated.{dated_text}
+use Rattle.osn_territory.specs.declared.dating.DatedDay.{DatedDay}
+use Rattle.osn_territory.specs.Dating.{dated_text}
 use Rattle.osn_written.specs.declared.written_date.WrittenDate.{WrittenDate}
 use Rattle.osn_written.specs.Meaning.{is_on, is_not_counted_double}
 use Rattle.osn_pages.specs.Words.{calendar_words, named_day}

@@ -12,16 +12,16 @@ use Rattle.osn_written.specs.declared.any_date.Reckoning.TheVariants.{OldStyle, 
 use Rattle.osn_written.specs.declared.any_date.AnyDate.{AnyDate}
 use Rattle.osn_written.specs.declared.any_date.Extent.{Extent}
 use Rattle.osn_written.specs.AnyDate.{has_three_digits}
-use Rattle.osn_territory.specs.declared.dated.DatedDay.{DatedDay}
+use Rattle.osn_territory.specs.declared.dating.DatedDay.{DatedDay}
 use Rattle.osn_territory.specs.declared.runs.Run.{Run}
-use Rattle.osn_territory.specs.Dated.{dated_on, dated_text}
+use Rattle.osn_territory.specs.Dating.{dated_on, dated_text}
 use Rattle.osn_territory.specs.Territory.{TerritoryModel}
 use Rattle.osn_written.specs.declared.finding.NoDay.{NoDay}
 use Rattle.osn_written.specs.declared.written_date.DateFault.{DateFault}
 use Rattle.osn_written.specs.declared.written_date.WrittenDate.{WrittenDate}
 use Rattle.osn_written.specs.DateInWords.{words_of}
 use Rattle.osn_written.specs.Finding.{by_reckoning, extent_meant, is_by_other_calendar}
-use Rattle.osn_written.specs.Finding.{reckoned}
+use Rattle.osn_written.specs.Finding.{with_reckoning}
 use Rattle.osn_written.specs.Spans.{ends_in_next_year}
 use Rattle.osn_written.specs.PlainDay.{plain_day}
 use Rattle.osn_written.specs.PlainDay.{one_day}
@@ -132,7 +132,7 @@ weekday_line weekday None = not_sought_line weekday
 
 unfoldable pub remark_lines : Rules → List ℕ → TerritoryModel → AnyDate → Option Weekday → List ℕ
 remark_lines p name t w given =
-    next_year_line p (reckoned t w.reckoning) w.extent
+    next_year_line p (with_reckoning t w.reckoning) w.extent
     ++ (sureness_line w
     ++ (three_digits_line w
     ++ (calendar_line p name t w w.reckoning

@@ -6,13 +6,13 @@ use Rattle.osn_written.specs.declared.any_date.AnyDate.{AnyDate}
 use Rattle.osn_grammar.specs.Reading.{members}
 use Rattle.osn_territory.specs.declared.runs.Run.{Run}
 use Rattle.osn_territory.specs.Territory.{TerritoryModel}
-use Rattle.osn_register.specs.Named.{named_of}
+use Rattle.osn_register.specs.NamedTerritories.{named_of}
 use Rattle.osn_register.specs.Plain.{EntryModel, sources_of}
 use Rattle.osn_register.specs.Sources.{SourcesModel}
 use Rattle.osn_written.specs.declared.kind.Kind.TheVariants as kinds
 use Rattle.osn_written.specs.declared.set.AbsentMember.{AbsentMember}
 use Rattle.osn_written.specs.SetsMeant.{set_meant, is_set_approximate, is_set_uncertain}
-use Rattle.osn_pages.specs.declared.page.Published.{Published}
+use Rattle.osn_pages.specs.declared.page.Publication.{Publication}
 use Rattle.osn_pages.specs.DateLines.{no_day_lines}
 use Rattle.osn_pages.specs.Heading.{heading, pending_line}
 use Rattle.osn_pages.specs.Remarks.{not_sought_line, sureness}
@@ -38,7 +38,7 @@ set_lines p t sources ws given =
 -- the page of a text, of the name, the territory and the sources of the code, and how many edits
 -- wait. The text itself is the heading
 abbrev pub set_page_of : Rules → Option (List ℕ × TerritoryModel) → Option SourcesModel → List ℕ
-    → Published → List ℕ → Option Weekday → List ℕ
+    → Publication → List ℕ → Option Weekday → List ℕ
 set_page_of p None sources code published text given = []
 set_page_of p (Some named) sources code published text given =
     (heading text named.0 code published.edition
@@ -46,7 +46,7 @@ set_page_of p (Some named) sources code published text given =
     ++ pending_line published.pending
 
 -- the text of the page. A code that no territory has is refused
-abbrev pub set_page_text : Rules → List EntryModel → List ℕ → Published → List ℕ
+abbrev pub set_page_text : Rules → List EntryModel → List ℕ → Publication → List ℕ
     → Option Weekday → List ℕ
 set_page_text p territories code published text given =
     set_page_of p (named_of code territories) (sources_of code territories) code published text

@@ -4,10 +4,10 @@ use Rattle.std.specs.Prelude.{ℕ, List, ◌++◌, map, Option, codes}
 use Rattle.std.specs.Fmt.{decimal}
 use Rattle.std.specs.List.{flat_map}
 use Rattle.osn_days.specs.Rules.{Rules}
-use Rattle.osn_territory.specs.Dated.{dated_on}
+use Rattle.osn_territory.specs.Dating.{dated_on}
 use Rattle.osn_territory.specs.Territory.{TerritoryModel, periods_of}
 use Rattle.osn_register.specs.declared.answer.Land.{Land}
-use Rattle.osn_register.specs.Answer.{listed, easter_source}
+use Rattle.osn_register.specs.Answer.{land_of, easter_source}
 use Rattle.osn_register.specs.Plain.{EntryModel}
 use Rattle.osn_register.specs.Sources.{SourcesModel}
 use Rattle.osn_pages.specs.Heading.{pending_line}
@@ -43,4 +43,4 @@ list_line territory = territory.name ++ (codes " (" ++ (territory.code ++ codes 
 -- the page of all territories, in the order of addition
 unfoldable pub territories_page : List EntryModel → ℕ → ℕ → List ℕ
 territories_page territories edition pending =
-    list_heading edition ++ (flat_map list_line (map listed territories) ++ pending_line pending)
+    list_heading edition ++ (flat_map list_line (map land_of territories) ++ pending_line pending)

@@ -5,9 +5,9 @@ use Rattle.std.specs.List.{flat_map, list_any}
 use Rattle.std.specs.Str.{bytes_eq}
 use Rattle.osn_days.specs.Month.{month_name}
 use Rattle.osn_days.specs.Rules.{Rules}
-use Rattle.osn_territory.specs.declared.dated.DatedDay.{DatedDay}
+use Rattle.osn_territory.specs.declared.dating.DatedDay.{DatedDay}
 use Rattle.osn_territory.specs.declared.style.Style.{Style}
-use Rattle.osn_territory.specs.Dated.{dated_on}
+use Rattle.osn_territory.specs.Dating.{dated_on}
 use Rattle.osn_territory.specs.LabelOrder.{gaps}
 use Rattle.osn_territory.specs.MonthDay.{has_month_day}
 use Rattle.osn_territory.specs.Runs.{days_of_year}
@@ -23,7 +23,7 @@ use Rattle.osn_written.specs.Meaning.{label_of}
 use Rattle.osn_written.specs.Nearest.{nearest}
 use Rattle.osn_pages.specs.SourceLine.{source_text}
 use Rattle.osn_pages.specs.Turn.{turned_line}
-use Rattle.osn_pages.specs.Words.{numbered_day, year_ends, empty_year_line, followed}
+use Rattle.osn_pages.specs.Words.{numbered_day, year_ends, empty_year_line, days_at_change}
 
 -- ---- a line about a day
 
@@ -67,7 +67,7 @@ not_of_calendar_line p t month =
 
 -- the day before a change and the day of the change
 unfoldable pub skip_line : DatedDay → DatedDay → List ℕ
-skip_line before change = codes "skipped: " ++ (followed before change ++ codes "\n")
+skip_line before change = codes "skipped: " ++ (days_at_change before change ++ codes "\n")
 
 -- the line that the year began on another date from the change on
 abbrev pub beginning_line : Style → Style → List ℕ

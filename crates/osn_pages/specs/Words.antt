@@ -7,8 +7,8 @@ use Rattle.osn_days.specs.Chain.{date_of}
 use Rattle.osn_days.specs.Line.{weekday}
 use Rattle.osn_days.specs.Month.{month_name}
 use Rattle.osn_days.specs.Weekday.{weekday_name, weekday_numbered}
-use Rattle.osn_territory.specs.declared.dated.DatedDay.{DatedDay}
-use Rattle.osn_territory.specs.Dated.{dated_text}
+use Rattle.osn_territory.specs.declared.dating.DatedDay.{DatedDay}
+use Rattle.osn_territory.specs.Dating.{dated_text}
 
 -- a date with its year counted from 1 January: 22 February 1732
 abbrev pub words_of_date : Date → List ℕ
@@ -40,8 +40,8 @@ year_ends year first last =
     ++ (codes " ran there from " ++ (numbered_day first ++ (codes " to " ++ numbered_day last))))
 
 -- the day before a change and the day of the change, as the territory named both
-unfoldable pub followed : DatedDay → DatedDay → List ℕ
-followed before change =
+unfoldable pub days_at_change : DatedDay → DatedDay → List ℕ
+days_at_change before change =
     named_day before ++ (codes " was followed by " ++ numbered_day change)
 
 -- the line that no day had the year

@@ -12,25 +12,26 @@ use Rattle.osn_days.specs.declared.calendar.Calendar.TheVariants.{Gregorian}
 use Rattle.osn_days.specs.CalendarWords.{calendar_word}
 use Rattle.osn_days.specs.Chain.{date_of, days_with_date}
 use Rattle.osn_days.specs.Rules.{Rules}
-use Rattle.osn_territory.specs.declared.dated.DatedDay.{DatedDay}
+use Rattle.osn_territory.specs.declared.dating.DatedDay.{DatedDay}
 use Rattle.osn_territory.specs.declared.period.Period.{Period}
 use Rattle.osn_territory.specs.declared.regime.Regime.{Regime}
-use Rattle.osn_territory.specs.Dated.{dated_on}
+use Rattle.osn_territory.specs.Dating.{dated_on}
 use Rattle.osn_territory.specs.Runs.{days_of_year}
 use Rattle.osn_territory.specs.StyleWords.{beginning_of_year}
 use Rattle.osn_territory.specs.Territory.{TerritoryModel, periods_of, regime_at}
 use Rattle.osn_register.specs.Answer.{period_source, easter_source}
-use Rattle.osn_register.specs.Named.{named_of}
+use Rattle.osn_register.specs.NamedTerritories.{named_of}
 use Rattle.osn_register.specs.Plain.{EntryModel, sources_of}
 use Rattle.osn_register.specs.Sources.{SourcesModel}
-use Rattle.osn_pages.specs.declared.page.Published.{Published}
+use Rattle.osn_pages.specs.declared.page.Publication.{Publication}
 use Rattle.osn_pages.specs.Grid.{pieces_of, is_next}
 use Rattle.osn_pages.specs.Heading.{heading, pending_line}
 use Rattle.osn_pages.specs.Reading.{plain_day_line}
 use Rattle.osn_pages.specs.Runs.{count_line}
 use Rattle.osn_pages.specs.SourceLine.{source_text}
 use Rattle.osn_pages.specs.Turn.{gap_words, turned_line}
-use Rattle.osn_pages.specs.Words.{named_day, calendar_words, year_ends, empty_year_line, followed}
+use Rattle.osn_pages.specs.Words.{named_day, calendar_words, year_ends, empty_year_line}
+use Rattle.osn_pages.specs.Words.{days_at_change}
 use Rattle.osn_written.specs.declared.feast.Feast.{Feast}
 use Rattle.osn_written.specs.declared.feast.Feast.TheVariants as feast
 use Rattle.osn_pages.specs.declared.year_days.Part.{Part}
@@ -139,7 +140,7 @@ turned_lines old new =
 -- the day before a change and the day of the change, and how many dates were left out or came twice
 unfoldable pub followed_line : Rules → TerritoryModel → ℕ → List ℕ
 followed_line p t change =
-    followed (dated_on p t (change - 1)) (dated_on p t change)
+    days_at_change (dated_on p t (change - 1)) (dated_on p t change)
     ++ (gap_words (days_with_date p (regime_at t (change - 1)).calendar
     (date_of (regime_at t change).calendar change)) change
     ++ codes "\n")
@@ -219,13 +220,13 @@ year_lines p t sources year =
     ++ (feasts_text p t sources year ++ (figures_heading year ++ figures_lines p year)))
 
 abbrev pub year_page_of : Rules → Option (List ℕ × TerritoryModel) → Option SourcesModel
-    → List ℕ → Published → ℕ → List ℕ
+    → List ℕ → Publication → ℕ → List ℕ
 year_page_of p None sources code published year = []
 year_page_of p (Some named) sources code published year =
     year_heading year named.0 code published.edition
     ++ (year_lines p named.1 sources year ++ pending_line published.pending)
 
 -- the text of the page. A code that no territory has is refused
-abbrev pub year_page : Rules → List EntryModel → List ℕ → Published → ℕ → List ℕ
+abbrev pub year_page : Rules → List EntryModel → List ℕ → Publication → ℕ → List ℕ
 year_page p territories code published year =
     year_page_of p (named_of code territories) (sources_of code territories) code published year

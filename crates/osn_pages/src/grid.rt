@@ -32,10 +32,10 @@ fn month_year(alloc: Global, dated: DatedDay) -> Result<String, AllocError>
 }
 
 /// Appends the line of a title.
-#[tactic(auto, unfolding(crate::specs::Grid::centred))]
+#[tactic(auto, unfolding(crate::specs::Grid::title_row))]
 fn push_centred(out: &mut String, title: &str) -> Result<(), AllocError>
     ensures { OnOk result (string_bytes out.new
-        ≡ string_bytes out.old ++ spec.centred title.now) }
+        ≡ string_bytes out.old ++ spec.title_row title.now) }
 {
     push_spaces(out, WIDTH.saturating_sub(title.len()) / 2)?;
     writeln!(out, "{}", title)

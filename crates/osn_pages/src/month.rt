@@ -1,7 +1,7 @@
 //! The days of a month as a territory dated them.
 ghost use Rattle.std.specs.Prelude.{◌≡◌, ◌++◌, map, IfOk, OnOk, string_bytes, pos};
 ghost use Rattle.osn_days.specs.Rules.{newest_rules};
-ghost use Rattle.osn_territory.specs.Dated.{dated_on};
+ghost use Rattle.osn_territory.specs.Dating.{dated_on};
 ghost use Rattle.osn_territory.specs.Runs.{days_in, days_of_run, days_of_month};
 ghost use Rattle.osn_pages.specs.Grid.{grids};
 

@@ -52,7 +52,7 @@ pub enum Page {
 
 /// What was published when a page was asked for.
 #[derive(Clone, Copy, Debug, PartialEq, Eq)]
-pub struct Published {
+pub struct Publication {
     /// The number of the edition, 0 before the first one.
     pub edition: usize,
     /// How many edits wait to be published.
@@ -180,7 +180,7 @@ pub fn page_text(
     alloc: Global,
     register: &Register,
     code: &str,
-    published: Published,
+    published: Publication,
     page: Page,
 ) -> Result<String, Refusal>
     ensures lawful { OnOk result (code_refusal register.now.territories code.now ≡ None) }

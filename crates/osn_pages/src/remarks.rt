@@ -1,7 +1,7 @@
 //! How a page names a date, and what is remarked after its days.
 ghost use Rattle.std.specs.Prelude.{◌≡◌, ◌++◌, OnOk, string_bytes};
 ghost use Rattle.osn_days.specs.Rules.{newest_rules};
-ghost use Rattle.osn_written.specs.Finding.{list_of, reckoned};
+ghost use Rattle.osn_written.specs.Finding.{list_of, with_reckoning};
 ghost use Rattle.osn_pages.specs.Remarks as spec;
 
 use osn_days::{Day, Weekday};
@@ -97,7 +97,8 @@ fn push_next_year(
     date: AnyDate,
 ) -> Result<(), AllocError>
     ensures { OnOk result (string_bytes out.new ≡ string_bytes out.old
-        ++ spec.next_year_line newest_rules (reckoned territory.now date.reckoning) date.extent) }
+        ++ spec.next_year_line newest_rules
+        (with_reckoning territory.now date.reckoning) date.extent) }
 {
     match date.reckoning {
         None => push_next_year_by(alloc, out, territory, date.extent),

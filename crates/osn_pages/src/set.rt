@@ -10,7 +10,7 @@ ghost use Rattle.osn_written.specs.SetsMeant.{set_meant, set_list_of};
 
 use crate::date_lines::push_no_day;
 use crate::heading::{push_pending, push_territory_heading};
-use crate::page::{Place, Published, ROOM};
+use crate::page::{Place, Publication, ROOM};
 use crate::remarks::push_not_sought;
 use crate::runs::push_runs;
 use crate::territory_sources::TerritorySources;
@@ -127,7 +127,7 @@ pub fn set_page_text(
     alloc: Global,
     register: &Register,
     code: &str,
-    published: Published,
+    published: Publication,
     text: &str,
     given: Option<Weekday>,
 ) -> Result<String, Refusal>

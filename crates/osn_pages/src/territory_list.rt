@@ -4,7 +4,7 @@ ghost use Rattle.std.specs.List.{flat_map};
 ghost use Rattle.osn_pages.specs.Territory as spec;
 
 use crate::heading::push_pending;
-use crate::page::Published;
+use crate::page::Publication;
 use osn_register::{Land, Register};
 use std::alloc::{AllocError, Global};
 use std::fmt::Write;
@@ -55,13 +55,13 @@ fn push_territories(out: &mut String, territories: &[Land]) -> Result<(), AllocE
 pub fn territories_page(
     alloc: Global,
     register: &Register,
-    published: Published,
+    published: Publication,
 ) -> Result<String, AllocError>
     ensures { IfOk result (λ s. string_bytes s ≡ spec.territories_page register.now.territories
         published.edition published.pending) }
 {
     let mut text = String::with_capacity(alloc, ROOM)?;
-    let territories = register.listed()?;
+    let territories = register.list_territories()?;
     push_list_heading(&mut text, published.edition)?;
     push_territories(&mut text, territories.as_slice())?;
     push_pending(&mut text, published.pending)?;

@@ -2,7 +2,7 @@
 ghost use Rattle.std.specs.Prelude.{◌≡◌, ◌++◌, ◌<◌, ◌-◌, OnOk, map, pos, string_bytes};
 ghost use Rattle.std.specs.List.{flat_map, All};
 ghost use Rattle.osn_days.specs.Rules.{newest_rules};
-ghost use Rattle.osn_territory.specs.Dated.{dated_on};
+ghost use Rattle.osn_territory.specs.Dating.{dated_on};
 ghost use Rattle.osn_territory.specs.Runs.{days_in, days_of_year, AreRuns};
 ghost use Rattle.osn_written.specs.Absence.{absence};
 ghost use Rattle.osn_written.specs.Nearest.{nearest_days as days_nearest};
@@ -11,7 +11,7 @@ ghost use Rattle.osn_pages.specs.Why as spec;
 use crate::source_line::push_source;
 use crate::territory_sources::TerritorySources;
 use crate::turn::push_turned;
-use crate::words::{Followed, NumberedDay, YearEnds, push_empty_year};
+use crate::words::{DaysAtChange, NumberedDay, YearEnds, push_empty_year};
 use osn_days::{Day, Keyword, month_name};
 use osn_territory::{DatedDay, Run, Style, Territory};
 use osn_written::{Absence, WrittenDate, absence_of, nearest_days};
@@ -128,7 +128,7 @@ fn push_skip_line(out: &mut String, before: DatedDay, change: DatedDay) -> Resul
     ensures { OnOk result (string_bytes out.new
         ≡ string_bytes out.old ++ spec.skip_line before change) }
 {
-    writeln!(out, "skipped: {}", Followed { before, change })
+    writeln!(out, "skipped: {}", DaysAtChange { before, change })
 }
 
 /// Returns whether the two styles are one.

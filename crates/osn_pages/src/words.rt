@@ -91,20 +91,20 @@ impl fmt::Display for YearEnds {
 
 /// The day before a change, and the day of the change.
 #[derive(Clone, Copy, Debug, PartialEq, Eq)]
-pub struct Followed {
+pub struct DaysAtChange {
     /// The day before.
     pub before: DatedDay,
     /// The day of the change.
     pub change: DatedDay,
 }
 
-impl fmt::Display for Followed {
+impl fmt::Display for DaysAtChange {
     ghost use Rattle.std.specs.Prelude.{Some};
-    ghost use Rattle.osn_pages.specs.Words.{followed};
+    ghost use Rattle.osn_pages.specs.Words.{days_at_change};
 
-    ghost output = { λ x. Some (followed x.before x.change) };
+    ghost output = { λ x. Some (days_at_change x.before x.change) };
 
-    #[tactic(auto, unfolding(crate::specs::Words::followed))]
+    #[tactic(auto, unfolding(crate::specs::Words::days_at_change))]
     fn fmt<W: fmt::Write>(&self, f: &mut fmt::Formatter<W>) -> fmt::Result {
         let before = NamedDay(self.before);
         let change = NumberedDay(self.change);

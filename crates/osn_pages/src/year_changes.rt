@@ -7,7 +7,7 @@ ghost use Rattle.osn_pages.specs.YearPage as spec;
 
 use crate::source_line::push_source;
 use crate::turn::{push_gap, push_turned};
-use crate::words::Followed;
+use crate::words::DaysAtChange;
 use crate::year_days::label_year;
 use osn_days::{Day, Keyword, Year, date_of, day_of};
 use osn_register::Register;
@@ -87,7 +87,7 @@ fn push_followed(
     ensures { OnOk result (string_bytes out.new
         ≡ string_bytes out.old ++ spec.followed_line newest_rules territory.now change) }
 {
-    let followed = Followed {
+    let followed = DaysAtChange {
         before: territory.dated(last),
         change: territory.dated(change),
     };

@@ -3,7 +3,7 @@ ghost use Rattle.std.specs.Prelude.{◌≡◌, ◌<◌, ◌≤◌, ◌∷◌, �
 ghost use Rattle.std.specs.Prelude.{length, take, drop, pos};
 ghost use Rattle.osn_days.specs.Rules.{newest_rules};
 ghost use Rattle.osn_days.specs.declared.calendar.Calendar.TheVariants.{Gregorian};
-ghost use Rattle.osn_territory.specs.Dated.{dated_on};
+ghost use Rattle.osn_territory.specs.Dating.{dated_on};
 ghost use Rattle.osn_territory.specs.Runs.{days_of_year};
 ghost use Rattle.osn_pages.specs.Grid.{is_next};
 ghost use Rattle.osn_pages.specs.YearPage as spec;

@@ -8,7 +8,7 @@ ghost use Rattle.osn_pages.specs.YearPage as spec;
 
 use crate::figures::push_figures;
 use crate::heading::{push_pending, push_territory_heading};
-use crate::page::Published;
+use crate::page::Publication;
 use crate::year_changes::push_changes;
 use crate::year_days::push_days;
 use crate::year_feasts::push_feasts;
@@ -73,7 +73,7 @@ fn text_of(
     code: &str,
     name: &str,
     territory: &Territory,
-    published: Published,
+    published: Publication,
     year: Year,
 ) -> Result<String, AllocError>
     ensures { IfOk result (λ s. string_bytes s
@@ -100,7 +100,7 @@ pub fn year_page_text(
     alloc: Global,
     register: &Register,
     code: &str,
-    published: Published,
+    published: Publication,
     year: Year,
 ) -> Result<String, Refusal>
     ensures lawful { OnOk result (code_refusal register.now.territories code.now ≡ None) }

@@ -6,7 +6,7 @@ use Rattle.std.specs.Map.{lookup}
 use Rattle.osn_territory.specs.Territory.{TerritoryModel}
 use Rattle.osn_register.specs.Sources.{SourcesModel}
 use Rattle.osn_register.specs.Plain.{EntryModel, entry_of}
-use Rattle.osn_register.specs.Named.{named_of}
+use Rattle.osn_register.specs.NamedTerritories.{named_of}
 use Rattle.osn_register.specs.Inside.{entry_in}
 
 module _ {K V : Type 0} (text : K → List ℕ) (name : V → List ℕ) (territory : V → TerritoryModel)

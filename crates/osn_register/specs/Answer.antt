@@ -28,13 +28,13 @@ use Rattle.osn_written.specs.declared.any_date.AnyDate.{AnyDate}
 use Rattle.osn_written.specs.declared.date_reading.DateReading.{DateReading}
 use Rattle.osn_written.specs.declared.date_reading.DateReading.TheVariants as readings
 use Rattle.osn_written.specs.declared.kind.Kind.TheVariants as kinds
-use Rattle.osn_written.specs.declared.missing.Missing.{Missing}
+use Rattle.osn_written.specs.declared.missing_date.MissingDate.{MissingDate}
 use Rattle.osn_written.specs.declared.written_date.DateFault.{DateFault}
 use Rattle.osn_written.specs.declared.year_feasts.FeastDay.{FeastDay}
 use Rattle.osn_written.specs.DateInWords.{words_of}
-use Rattle.osn_written.specs.Finding.{extent_meant, reckoned, is_by_other_calendar}
+use Rattle.osn_written.specs.Finding.{extent_meant, with_reckoning, is_by_other_calendar}
 use Rattle.osn_written.specs.Kind.{kind_of}
-use Rattle.osn_written.specs.Missing.{days_like, changes_over, year_without}
+use Rattle.osn_written.specs.MissingDate.{days_like, changes_over, year_without}
 use Rattle.osn_written.specs.YearFeasts.{feasts_of_year}
 use Rattle.osn_written.specs.SetsMeant.{set_meant, is_set_approximate, is_set_uncertain}
 use Rattle.osn_register.specs.declared.query.Query.{Query}
@@ -212,14 +212,14 @@ abbrev pub found_run : Rules → TerritoryModel → Run → FoundRun
 found_run p t run = record { first = found_on p t run.first; last = found_on p t run.last }
 
 -- what is near a date that no day has, each day as the territory names it
-abbrev pub near_missing : Rules → TerritoryModel → TerritoryModel → Missing → NearDays
+abbrev pub near_missing : Rules → TerritoryModel → TerritoryModel → MissingDate → NearDays
 near_missing p t by missing = record {
   days = map (found_on p t) (days_like p by missing);
   changes = changes_over p by missing;
   year = map (found_run p t) (year_without p by missing);
 }
 
-abbrev pub near : Rules → TerritoryModel → TerritoryModel → Option Missing → NearDays
+abbrev pub near : Rules → TerritoryModel → TerritoryModel → Option MissingDate → NearDays
 near p t by None = record { days = []; changes = []; year = [] }
 near p t by (Some missing) = near_missing p t by missing
 
@@ -232,12 +232,12 @@ date_answer p t w given = record {
   is_uncertain = w.is_uncertain;
   is_supplied = w.is_supplied;
   is_by_other_calendar = is_by_other_calendar p t w;
-  reason = reason_in (extent_meant p (reckoned t w.reckoning) w.extent);
-  runs = map (found_run p t) (runs_in (extent_meant p (reckoned t w.reckoning) w.extent));
-  is_on_weekday = if_weekday p (reckoned t w.reckoning) w given;
-  remarks = remarks_of p t (reckoned t w.reckoning) w;
-  near = near p t (reckoned t w.reckoning)
-      (missing_in w.extent (extent_meant p (reckoned t w.reckoning) w.extent));
+  reason = reason_in (extent_meant p (with_reckoning t w.reckoning) w.extent);
+  runs = map (found_run p t) (runs_in (extent_meant p (with_reckoning t w.reckoning) w.extent));
+  is_on_weekday = if_weekday p (with_reckoning t w.reckoning) w given;
+  remarks = remarks_of p t (with_reckoning t w.reckoning) w;
+  near = near p t (with_reckoning t w.reckoning)
+      (missing_in w.extent (extent_meant p (with_reckoning t w.reckoning) w.extent));
 }
 
 -- the answer if no date is read, with the reason
@@ -287,8 +287,8 @@ abbrev pub unless : Option Refusal → Answer → Answer
 unless None answer = answer
 unless (Some f) answer = Refused f
 
-abbrev pub listed : EntryModel → Land
-listed l = record { code = l.code; name = l.name }
+abbrev pub land_of : EntryModel → Land
+land_of l = record { code = l.code; name = l.name }
 
 abbrev pub read_answer : Rules → List EntryModel → List ℕ → ℤ → ℤ → ℤ → Answer
 read_answer p territories code year month day =
@@ -347,7 +347,7 @@ answer p territories (queries.Read code year month day) =
 answer p territories (queries.DayIn code day) = day_in_answer p territories code day
 answer p territories (queries.Easter code year) = easter_answer p territories code year
 answer p territories (queries.YearFigures year) = figures_answer p year
-answer p territories queries.Lands = Lands (map listed territories)
+answer p territories queries.Lands = Lands (map land_of territories)
 answer p territories (queries.Periods code) = periods_in_answer p territories code
 answer p territories (queries.Exceptions code) = exceptions_in_answer p territories code
 answer p territories (queries.Changes code) = changes_in_answer p territories code

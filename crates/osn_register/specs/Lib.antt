@@ -8,7 +8,7 @@ pub mod Sources
 pub mod Plain
 pub mod Lawful
 pub mod SameEntry
-pub mod Named
+pub mod NamedTerritories
 pub mod Remarks
 pub mod Answer
 pub mod Inside

@@ -9,7 +9,7 @@ use Rattle.osn_days.specs.Rules.{Rules}
 use Rattle.osn_days.specs.Line.{IsDay, IsYear}
 use Rattle.osn_territory.specs.declared.regime.Regime.{Regime}
 use Rattle.osn_territory.specs.Style.{lacks_julian}
-use Rattle.osn_territory.specs.Territory.{TerritoryModel, opened, periods_of, CoversLine}
+use Rattle.osn_territory.specs.Territory.{TerritoryModel, of_one_regime, periods_of, CoversLine}
 use Rattle.osn_territory.specs.Changes.{starts_on, with_change, with_altered, without_change}
 use Rattle.osn_territory.specs.Exceptions.{exception_of, with_exception, without_exception}
 use Rattle.osn_territory.specs.Exceptions.{HasAscendingYears}
@@ -183,7 +183,7 @@ with_entry territories code name territory sources = territories ++ record {
 -- or none, and what is dropped has none
 abbrev pub effect : List EntryModel → Edit → List EntryModel
 effect territories (AddLand code name regime source) =
-    with_entry territories code name (opened regime) (opening_sources source)
+    with_entry territories code name (of_one_regime regime) (opening_sources source)
 effect territories (AddChange code day regime source) =
     with_territory code (λ t. with_change t (unsigned_abs day) regime)
     (with_period_source (unsigned_abs day) source) territories
@@ -205,17 +205,17 @@ unless_refused None new old = new
 unless_refused (Some f) new old = old
 
 -- the territories after an edit. A refused one has no effect
-abbrev pub applied : Rules → Limits → List EntryModel → Edit → List EntryModel
-applied p limits territories e =
+abbrev pub after_edit : Rules → Limits → List EntryModel → Edit → List EntryModel
+after_edit p limits territories e =
     unless_refused (refusal p limits territories e) (effect territories e) territories
 
 -- the territories after edits in turn
-abbrev pub applied_all : Rules → Limits → List EntryModel → List Edit → List EntryModel
-applied_all p limits territories es = fold (applied p limits) territories es
+abbrev pub after_edits : Rules → Limits → List EntryModel → List Edit → List EntryModel
+after_edits p limits territories es = fold (after_edit p limits) territories es
 
 -- the register of edits in turn, from the empty one
-abbrev pub folded : Rules → Limits → List Edit → RegisterModel
-folded p limits es = record { limits = limits; territories = applied_all p limits [] es }
+abbrev pub register_after : Rules → Limits → List Edit → RegisterModel
+register_after p limits es = record { limits = limits; territories = after_edits p limits [] es }
 
 -- whether applying an edit takes memory: a lawful one that adds
 abbrev pub apply_takes_memory : Rules → Limits → List EntryModel → Edit → Bool
@@ -227,7 +227,7 @@ abbrev pub fold_takes_memory : Rules → Limits → List EntryModel → List Edi
 fold_takes_memory p limits territories [] = false
 fold_takes_memory p limits territories (e ∷ es) =
     apply_takes_memory p limits territories e
-    || fold_takes_memory p limits (applied p limits territories e) es
+    || fold_takes_memory p limits (after_edit p limits territories e) es
 
 -- no two territories have one code
 abbrev pub AreDistinct : List EntryModel → Type 0

@@ -10,14 +10,14 @@ use Rattle.osn_territory.specs.Territory.{TerritoryModel}
 use Rattle.osn_written.specs.declared.any_date.AnyDate.{AnyDate}
 use Rattle.osn_written.specs.declared.any_date.Extent.{Extent}
 use Rattle.osn_written.specs.declared.finding.NoDay.{NoDay}
-use Rattle.osn_written.specs.declared.missing.Missing.{Missing}
+use Rattle.osn_written.specs.declared.missing_date.MissingDate.{MissingDate}
 use Rattle.osn_written.specs.declared.set.AbsentMember.{AbsentMember}
 use Rattle.osn_written.specs.declared.written_date.WrittenDate.{WrittenDate}
 use Rattle.osn_written.specs.AnyDate.{has_three_digits}
 use Rattle.osn_written.specs.DateInWords.{words_of}
 use Rattle.osn_written.specs.Double.{is_extent_not_counted_double}
 use Rattle.osn_written.specs.Meaning.{meaning, has_weekday}
-use Rattle.osn_written.specs.Missing.{missing_day}
+use Rattle.osn_written.specs.MissingDate.{missing_day}
 use Rattle.osn_written.specs.PlainDay.{one_day}
 use Rattle.osn_written.specs.Spans.{ends_in_next_year}
 use Rattle.osn_register.specs.declared.answer.Reason.{Reason}
@@ -34,7 +34,7 @@ reason_in (Ok runs) = None
 reason_in (Err none) = Some (reasons.NoDay none)
 
 -- the date whose day is missing, if that is why
-abbrev pub missing_in : Extent → Result (List Run) NoDay → Option Missing
+abbrev pub missing_in : Extent → Result (List Run) NoDay → Option MissingDate
 missing_in e (Ok runs) = None
 missing_in e (Err none) = missing_day e none
 
@@ -48,7 +48,7 @@ abbrev pub set_reason_in : Result (List Run) AbsentMember → Option Reason
 set_reason_in (Ok runs) = None
 set_reason_in (Err absent) = Some (reasons.NoDay absent.reason)
 
-abbrev pub missing_in_set : Result (List Run) AbsentMember → Option Missing
+abbrev pub missing_in_set : Result (List Run) AbsentMember → Option MissingDate
 missing_in_set (Ok runs) = None
 missing_in_set (Err absent) = missing_day absent.extent absent.reason
 

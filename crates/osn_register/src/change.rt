@@ -8,7 +8,7 @@ ghost use Rattle.osn_register.specs.InsideChange.{change_takes_memory, number_of
 ghost use Rattle.osn_register.specs.Sources.{IsGiven, with_source};
 
 use crate::source::Source;
-use crate::sources::{Sources, put, remove};
+use crate::sources::{Sources, insert_source, remove};
 use osn_days::{Day, Year};
 use osn_territory::{Regime, Territory};
 use std::alloc::AllocError;
@@ -85,7 +85,7 @@ impl TerritoryEdit {
             Some(source) => {
                 sources.reserve(1)?;
                 self.change(territory)?;
-                put(sources, number, source);
+                insert_source(sources, number, source);
             }
             None => {
                 self.change(territory)?;

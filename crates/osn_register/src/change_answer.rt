@@ -8,7 +8,7 @@ ghost use Rattle.osn_register.specs.Inside.{sources_in};
 
 use crate::answer::{Answer, FoundChange};
 use crate::sources::{Sources, source_of};
-use crate::territory_answer::{found_on, owned};
+use crate::territory_answer::{copy_source, found_on};
 use osn_days::{Day, date_of, day_of};
 use osn_territory::{Period, Territory};
 use osn_written::Listing;
@@ -69,7 +69,7 @@ fn found_change(
         twice: twice(same, first),
         regime_before,
         regime,
-        source: owned(source_of(&sources.periods, first.number()))?,
+        source: copy_source(source_of(&sources.periods, first.number()))?,
     })
 }
 

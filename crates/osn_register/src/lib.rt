@@ -15,6 +15,7 @@ mod figures;
 mod limits;
 mod numbers;
 mod query;
+mod query_fault;
 mod refusal;
 mod register;
 mod remarks;
@@ -22,7 +23,6 @@ mod source;
 mod sources;
 mod territory_answer;
 mod text;
-mod unanswered;
 mod written_answer;
 
 pub use answer::{

@@ -94,12 +94,12 @@ impl Query {
             | Query::Changes { code }
             | Query::Feasts { code, .. }
             | Query::Convert { code, .. }
-            | Query::Written { code, .. } => self.borrowed().to_query(code.allocator()),
+            | Query::Written { code, .. } => self.borrow().to_query(code.allocator()),
         }
     }
 
     /// Returns this query, with its texts borrowed.
-    pub fn borrowed(&self) -> BorrowedQuery<'_>
+    pub fn borrow(&self) -> BorrowedQuery<'_>
         ensures { as_query result ≡ self.now }
     {
         match self {

@@ -3,11 +3,12 @@ ghost use Rattle.std.specs.Prelude.{◌≡◌, [], true, Some, None, IfOk, IfErr
 ghost use Rattle.std.specs.Prelude.{◌<◌, ◌||◌, length, is_some, option_map};
 ghost use Rattle.std.specs.Prelude.{string_bytes};
 ghost use Rattle.osn_days.specs.Rules.{newest_rules};
-ghost use Rattle.osn_territory.specs.Territory.{opened};
+ghost use Rattle.osn_territory.specs.Territory.{of_one_regime};
 ghost use Rattle.osn_territory.specs.Changes.{regime_fault};
 ghost use Rattle.osn_register.specs.Code as form;
 ghost use Rattle.osn_register.specs.Plain.{refusal, add_land_refusal, code_refusal, refusal_in};
-ghost use Rattle.osn_register.specs.Plain.{with_entry, with_territory, effect, applied, folded};
+ghost use Rattle.osn_register.specs.Plain.{with_entry, with_territory, effect, after_edit};
+ghost use Rattle.osn_register.specs.Plain.{register_after};
 ghost use Rattle.osn_register.specs.Plain.{apply_takes_memory, entry_of, territory_of, sources_of};
 ghost use Rattle.osn_register.specs.Plain.{IsSoundTerritory, IsWellFormed, takes_memory};
 ghost use Rattle.osn_register.specs.Refusal.{IsCheckOf, IsRefusalOrNoMemory};
@@ -57,7 +58,7 @@ impl NamedTerritory {
         source: &Option<Source>,
     ) -> Result<NamedTerritory, AllocError>
         requires { regime_fault regime ≡ None }
-        ensures { IfOk result (λ e. (e.name ≡ name.now) × (e.territory ≡ opened regime)
+        ensures { IfOk result (λ e. (e.name ≡ name.now) × (e.territory ≡ of_one_regime regime)
             × (sources_in e.sources ≡ opening_sources source.now)
             × IsGiven source.now) }
     {
@@ -105,7 +106,7 @@ impl Model for Register {
 impl Register {
     /// Returns an empty register.
     pub fn new(alloc: Global, limits: Limits) -> Register
-        ensures { result ≡ folded newest_rules limits [] }
+        ensures { result ≡ register_after newest_rules limits [] }
     {
         Register {
             alloc,
@@ -262,7 +263,7 @@ impl Register {
     /// If memory runs out. A refused edit needs none. On an error nothing has changed.
     pub fn apply_if_lawful(&mut self, edit: &Edit) -> Result<(), AllocError>
         ensures ok { OnOk result (self.new ≡ record self.old {
-          territories = applied newest_rules self.old.limits self.old.territories edit.now;
+          territories = after_edit newest_rules self.old.limits self.old.territories edit.now;
         }) }
         ensures err { OnErr result (self.new ≡ self.old) }
         ensures memory { OnErr result
@@ -371,7 +372,7 @@ impl Register {
         requires regime { regime_fault regime ≡ None }
         requires room { length self.old.territories < self.old.limits.lands }
         ensures ok { OnOk result (self.new ≡ record self.old {
-          territories = with_entry self.old.territories code.now name.now (opened regime)
+          territories = with_entry self.old.territories code.now name.now (of_one_regime regime)
               (opening_sources source.now);
         }) }
         ensures source { OnOk result (IsGiven source.now) }

@@ -4,7 +4,7 @@ ghost use Rattle.osn_days.specs.Rules.{newest_rules};
 ghost use Rattle.osn_register.specs.Answer as answer;
 ghost use Rattle.osn_register.specs.Remarks as spec;
 ghost use Rattle.osn_written.specs.DateInWords.{words_of};
-ghost use Rattle.osn_written.specs.Missing as days_of;
+ghost use Rattle.osn_written.specs.MissingDate as days_of;
 
 use crate::answer::{DayList, FoundList, RunList};
 use crate::territory_answer::found_days;
@@ -13,8 +13,8 @@ use crate::written_answer::found_runs;
 use osn_days::Weekday;
 use osn_territory::Territory;
 use osn_written::{
-    AnyDate, DateInWords, Listing, Missing, Reckoning, changes_over, days_like, ends_in_next_year,
-    is_extent_not_counted_double, year_without,
+    AnyDate, DateInWords, Listing, MissingDate, Reckoning, changes_over, days_like,
+    ends_in_next_year, is_extent_not_counted_double, year_without,
 };
 use std::alloc::{AllocError, Global};
 use std::fmt::Write;
@@ -145,7 +145,7 @@ fn found_like(
     alloc: Global,
     territory: &Territory,
     reckoned: &Territory,
-    missing: Missing,
+    missing: MissingDate,
 ) -> Result<FoundList, AllocError>
     ensures { IfOk result (λ found. found ≡ map (answer.found_on newest_rules territory.now)
         (days_of.days_like newest_rules reckoned.now missing)) }
@@ -159,7 +159,7 @@ fn found_year(
     alloc: Global,
     territory: &Territory,
     reckoned: &Territory,
-    missing: Missing,
+    missing: MissingDate,
 ) -> Result<RunList, AllocError>
     ensures { IfOk result (λ found. found ≡ map (answer.found_run newest_rules territory.now)
         (days_of.year_without newest_rules reckoned.now missing)) }
@@ -174,7 +174,7 @@ fn near_missing(
     alloc: Global,
     territory: &Territory,
     reckoned: &Territory,
-    missing: Missing,
+    missing: MissingDate,
 ) -> Result<NearDays, AllocError>
     ensures { IfOk result (λ n.
         n ≡ answer.near_missing newest_rules territory.now reckoned.now missing) }
@@ -194,7 +194,7 @@ pub(crate) fn near(
     alloc: Global,
     territory: &Territory,
     reckoned: &Territory,
-    missing: Option<Missing>,
+    missing: Option<MissingDate>,
 ) -> Result<NearDays, AllocError>
     ensures { IfOk result (λ n.
         n ≡ answer.near newest_rules territory.now reckoned.now missing) }

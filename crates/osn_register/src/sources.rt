@@ -35,14 +35,14 @@ impl Sources {
         ensures { IfOk result (λ s. sources_in s ≡ sources_in self.now) }
     {
         Ok(Sources {
-            periods: copied(alloc, &self.periods)?,
-            easters: copied(alloc, &self.easters)?,
+            periods: copy_sources(alloc, &self.periods)?,
+            easters: copy_sources(alloc, &self.easters)?,
         })
     }
 }
 
 /// Returns a list of sources that is equal to this one.
-fn copied(alloc: Global, sources: &[(u32, Source)]) -> Result<Vec<(u32, Source)>, AllocError>
+fn copy_sources(alloc: Global, sources: &[(u32, Source)]) -> Result<Vec<(u32, Source)>, AllocError>
     ensures { IfOk result (λ v. v.items ≡ sources.now) }
 {
     let mut copied = Vec::with_capacity(alloc, sources.len())?;
@@ -74,7 +74,7 @@ pub(crate) fn remove(sources: &mut Vec<(u32, Source)>, number: u32)
 }
 
 /// Gives a number this source. There is room for one more.
-pub(crate) fn put(sources: &mut Vec<(u32, Source)>, number: u32, source: Source)
+pub(crate) fn insert_source(sources: &mut Vec<(u32, Source)>, number: u32, source: Source)
     requires { vec_len sources.old < vec_capacity sources.old }
     ensures { sources.new.items ≡ spec.with_source number (Some source) sources.old.items }
 {

@@ -77,7 +77,7 @@ fn read_days(
 }
 
 /// Returns a source that is lent, as one that an answer owns.
-pub(crate) fn owned(source: Option<&Source>) -> Result<Option<Source>, AllocError>
+pub(crate) fn copy_source(source: Option<&Source>) -> Result<Option<Source>, AllocError>
     ensures { IfOk result (λ s. s ≡ option_map (λ b. b.now) source.entry) }
 {
     match source {
@@ -92,7 +92,7 @@ fn and_source(sources: &Sources, period: Period) -> Result<PeriodAndSource, Allo
 {
     Ok(PeriodAndSource {
         period,
-        source: owned(source_of(&sources.periods, period.first.number()))?,
+        source: copy_source(source_of(&sources.periods, period.first.number()))?,
     })
 }
 
@@ -160,7 +160,7 @@ fn exception(
     Ok(Exception {
         year,
         found: found_on(alloc, territory, day)?,
-        source: owned(source_of(&sources.easters, year.number()))?,
+        source: copy_source(source_of(&sources.easters, year.number()))?,
     })
 }
 
@@ -195,7 +195,7 @@ pub(crate) fn easters(
     Ok(Answer::Easters {
         found: Listing::new(found),
         listed: territory.exception(year).is_some(),
-        source: owned(source_of(&sources.easters, year.number()))?,
+        source: copy_source(source_of(&sources.easters, year.number()))?,
     })
 }
 
@@ -240,7 +240,7 @@ pub(crate) fn feasts(alloc: Global, territory: &Territory, year: Year) -> Result
 }
 
 /// Returns the day that has a date by a calendar, as the territory names it, if the line has one.
-pub(crate) fn converted(
+pub(crate) fn conversion(
     alloc: Global,
     territory: &Territory,
     calendar: Calendar,

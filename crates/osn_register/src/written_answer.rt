@@ -12,7 +12,7 @@ use crate::territory_answer::found_on;
 use osn_days::Weekday;
 use osn_territory::{Run, Territory};
 use osn_written::{
-    AbsentMember, AnyDate, DateFault, DateReading, Extent, Kind, Listing, Missing, NoDay,
+    AbsentMember, AnyDate, DateFault, DateReading, Extent, Kind, Listing, MissingDate, NoDay,
     WrittenDate, by_reckoning, days_meant, find_runs, find_set, has_weekday, is_by_other_calendar,
     is_set_approximate, is_set_uncertain, kind_of, missing_day,
 };
@@ -62,7 +62,7 @@ fn runs_and_reason(
 }
 
 /// Returns the date whose day is missing, if that is why no day is meant.
-fn missing_in(extent: Extent, outcome: &Result<Vec<Run>, NoDay>) -> Option<Missing>
+fn missing_in(extent: Extent, outcome: &Result<Vec<Run>, NoDay>) -> Option<MissingDate>
     ensures { result ≡ remark.missing_in extent (finding.list_of outcome.now) }
 {
     match outcome {
@@ -113,7 +113,7 @@ fn answer_by(
     date: AnyDate,
     given: Option<Weekday>,
 ) -> Result<WrittenAnswer, AllocError>
-    requires { reckoned.now ≡ finding.reckoned territory.now date.reckoning }
+    requires { reckoned.now ≡ finding.with_reckoning territory.now date.reckoning }
     ensures { IfOk result (λ a. a ≡ spec.date_answer newest_rules territory.now date given) }
 {
     let outcome = find_runs(alloc, reckoned, date.extent)?;
@@ -169,7 +169,7 @@ fn set_runs_and_reason(
 }
 
 /// Returns the date of a set whose day is missing, if that is why no day is meant.
-fn missing_in_set(outcome: &Result<Vec<Run>, AbsentMember>) -> Option<Missing>
+fn missing_in_set(outcome: &Result<Vec<Run>, AbsentMember>) -> Option<MissingDate>
     ensures { result ≡ remark.missing_in_set (set_list_of outcome.now) }
 {
     match outcome {
@@ -239,7 +239,7 @@ fn reading_answer(
 }
 
 /// Returns what a date means in a territory, as it was read.
-pub(crate) fn written(
+pub(crate) fn written_date(
     alloc: Global,
     territory: &Territory,
     date: &DateReading,

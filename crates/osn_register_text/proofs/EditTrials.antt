@@ -6,8 +6,8 @@ use Rattle.osn_days.specs.Rules.{newest_rules}
 use Rattle.osn_register.specs.declared.limits.Limits.{Limits}
 use Rattle.osn_register.specs.declared.edit.Edit.{Edit}
 use Rattle.osn_register.specs.Lawful.{AreLawful}
-use Rattle.osn_register.specs.Plain.{EntryModel, entry_of, refusal, effect, applied, applied_all}
-use Rattle.osn_register_text.proofs.Lawful.{applied_all-append, applied-lawful, AreLawful-push}
+use Rattle.osn_register.specs.Plain.{EntryModel, entry_of, refusal, effect, after_edit, after_edits}
+use Rattle.osn_register_text.proofs.Lawful.{after_edits-append, after_edit-lawful, AreLawful-push}
 use Rattle.osn_register_text.specs.declared.plan_fault.PlanFault.{PlanFault}
 use Rattle.osn_register_text.specs.declared.plan_fault.PlanFault.TheVariants.{Renamed, Refused}
 use Rattle.osn_register_text.specs.declared.plan_fault.PlanFault.TheVariants.{NoMemory}
@@ -20,7 +20,7 @@ use Rattle.osn_register_text.proofs.PlanFacts.{AreNeeded-front, limit_at}
 pub record HasTaken (limits : Limits) (territories : List EntryModel) (edits : List Edit)
     (room : Limits) (draft : List EntryModel) : Type 0 where
   pub room_is : room ≡ limits
-  pub draft_is : draft ≡ applied_all newest_rules limits territories edits
+  pub draft_is : draft ≡ after_edits newest_rules limits territories edits
   pub lawful : AreLawful newest_rules limits territories edits
 
 module _ (limits : Limits) (territories : List EntryModel) (es : List Edit) (room : Limits)
@@ -34,14 +34,14 @@ module _ (limits : Limits) (territories : List EntryModel) (es : List Edit) (roo
       HasTaken limits territories (take (i + 1) es) room (effect draft e)
   taken_more none = record {
     room_is = taken.room_is;
-    draft_is = sym (applied-lawful newest_rules room draft e none)
-        ∙ ap (λ m. applied newest_rules m draft e) taken.room_is
-        ∙ ap (λ ls. applied newest_rules limits ls e) taken.draft_is
-        ∙ sym (applied_all-append newest_rules limits territories (take i es) (e ∷ []))
-        ∙ ap (applied_all newest_rules limits territories) (sym more);
+    draft_is = sym (after_edit-lawful newest_rules room draft e none)
+        ∙ ap (λ m. after_edit newest_rules m draft e) taken.room_is
+        ∙ ap (λ ls. after_edit newest_rules limits ls e) taken.draft_is
+        ∙ sym (after_edits-append newest_rules limits territories (take i es) (e ∷ []))
+        ∙ ap (after_edits newest_rules limits territories) (sym more);
     lawful = subst (AreLawful newest_rules limits territories) (sym more)
         (AreLawful-push newest_rules limits territories (take i es) e taken.lawful
-        (ap (λ m. refusal newest_rules m (applied_all newest_rules limits territories (take i es))
+        (ap (λ m. refusal newest_rules m (after_edits newest_rules limits territories (take i es))
         e) (sym taken.room_is)
         ∙ ap (λ ls. refusal newest_rules room ls e) (sym taken.draft_is) ∙ none));
   }
@@ -60,7 +60,7 @@ module _ (limits : Limits) (territories : List EntryModel) (es : List Edit) (roo
     lawful = taken.lawful;
     has_code = fault.0;
     refused = ap (λ m. refusal newest_rules m
-        (applied_all newest_rules limits territories (take i es)) e) (sym taken.room_is)
+        (after_edits newest_rules limits territories (take i es)) e) (sym taken.room_is)
         ∙ ap (λ ls. refusal newest_rules room ls e) (sym taken.draft_is) ∙ fault.1;
   }
   not_taken NoMemory fault = fault

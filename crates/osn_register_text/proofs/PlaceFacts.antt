@@ -5,7 +5,7 @@ use Rattle.std.specs.Prelude.{slice_get}
 use Rattle.std.proofs.lemmas.List.{drop_all, drop_more}
 use Rattle.std.proofs.lemmas.Option.{get_or_from_slice_get, slice_get_within}
 use Rattle.osn_territory.specs.Territory.{TerritoryModel}
-use Rattle.osn_register.specs.Named.{listing_of}
+use Rattle.osn_register.specs.NamedTerritories.{listing_of}
 use Rattle.osn_register.specs.Plain.{EntryModel}
 use Rattle.osn_register_text.specs.PlanPage.{absent_code, absent_codes}
 

@@ -5,7 +5,7 @@ use Rattle.std.proofs.lemmas.List.{drop_more}
 use Rattle.std.proofs.lemmas.Option.{slice_get_within, get_or_from_slice_get}
 use Rattle.std.specs.List.{slice_get}
 use Rattle.osn_territory.specs.Territory.{TerritoryModel}
-use Rattle.osn_register.specs.Named.{listing_of}
+use Rattle.osn_register.specs.NamedTerritories.{listing_of}
 use Rattle.osn_register.specs.Plain.{EntryModel}
 use Rattle.osn_register_text.proofs.Rows.{not_none, some_is}
 

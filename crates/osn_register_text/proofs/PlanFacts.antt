@@ -15,9 +15,9 @@ use Rattle.osn_register.specs.declared.refusal.Refusal.{Refusal}
 use Rattle.osn_register.specs.Answer.{period_source, easter_source}
 use Rattle.osn_register.specs.SameEntry.{AreSameEntry}
 use Rattle.osn_register.specs.Lawful.{AreLawful, code_of}
-use Rattle.osn_register.specs.Plain.{EntryModel, entry_of, refusal, effect, applied_all}
+use Rattle.osn_register.specs.Plain.{EntryModel, entry_of, refusal, effect, after_edits}
 use Rattle.osn_register.specs.Plain.{AreDistinct, AreNamed, AreSound}
-use Rattle.osn_register_text.proofs.Lawful.{applied-lawful}
+use Rattle.osn_register_text.proofs.Lawful.{after_edit-lawful}
 use Rattle.osn_register_text.specs.NeededEdits.{name_in, regime_from, regime_in, easter_in}
 use Rattle.osn_register_text.specs.NeededEdits.{period_cited}
 use Rattle.osn_register_text.specs.NeededEdits.{easter_cited, IsNeeded, AreNeeded}
@@ -34,11 +34,11 @@ use Rattle.osn_register_text.proofs.AscendingCodes.{are_fit, target_entry_same}
 
 effects_of : (limits : Limits) (territories : List EntryModel) (es : List Edit) →
     AreLawful newest_rules limits territories es →
-    applied_all newest_rules limits territories es ≡ fold effect territories es
+    after_edits newest_rules limits territories es ≡ fold effect territories es
 effects_of limits territories [] lawful = refl
 effects_of limits territories (e ∷ es) lawful =
-    ap (λ ls. applied_all newest_rules limits ls es)
-    (applied-lawful newest_rules limits territories e lawful.0)
+    ap (λ ls. after_edits newest_rules limits ls es)
+    (after_edit-lawful newest_rules limits territories e lawful.0)
     ∙ effects_of limits (effect territories e) es lawful.1
 
 -- of edits that limits alone refuse, one is refused after lawful ones by a limit
@@ -46,13 +46,13 @@ pub limit_at : (limits : Limits) (target territories : List EntryModel) (before 
     (e : Edit)
     (after : List Edit) (f : Refusal) → AreLawful newest_rules limits territories before →
     AreLimited newest_rules limits target territories (before ++ e ∷ after) →
-    refusal newest_rules limits (applied_all newest_rules limits territories before) e ≡ Some f →
+    refusal newest_rules limits (after_edits newest_rules limits territories before) e ≡ Some f →
     IsOver limits (entry_of (code_of e) target) f
 limit_at limits target territories [] e after f lawful limited refused = limited.0 f refused
 limit_at limits target territories (b ∷ before) e after f lawful limited refused =
     limit_at limits target (effect territories b) before e after f lawful.1 limited.1
-    (ap (λ ls. refusal newest_rules limits (applied_all newest_rules limits ls before) e)
-    (sym (applied-lawful newest_rules limits territories b lawful.0)) ∙ refused)
+    (ap (λ ls. refusal newest_rules limits (after_edits newest_rules limits ls before) e)
+    (sym (after_edit-lawful newest_rules limits territories b lawful.0)) ∙ refused)
 
 -- the first of edits that are needed in turn are needed in turn
 pub AreNeeded-front : (target territories : List EntryModel) (es fs : List Edit) →
@@ -198,7 +198,7 @@ pub is_plan : (room limits : Limits) (target territories : List EntryModel) →
     AreInOrder target (all_edits target territories) →
     AreLawful newest_rules limits territories (all_edits target territories) →
     AreSound newest_rules limits
-    (applied_all newest_rules limits territories (all_edits target territories)) →
+    (after_edits newest_rules limits territories (all_edits target territories)) →
     IsPlan limits target territories (all_edits target territories)
 is_plan room limits target territories sound made ordered lawful after = record {
   lawful = lawful;
@@ -214,15 +214,15 @@ is_plan room limits target territories sound made ordered lawful after = record 
 }
   where
     by : (code : List ℕ) (o : Option EntryModel) → entry_of code target ≡ o → is_some o ≡ true →
-        applied_all newest_rules limits territories (all_edits target territories)
+        after_edits newest_rules limits territories (all_edits target territories)
         ≡ fold effect territories (all_edits target territories) →
         AreSameEntry
-        (entry_of code (applied_all newest_rules limits territories (all_edits target territories)))
+        (entry_of code (after_edits newest_rules limits territories (all_edits target territories)))
         o
     by code None none some all = absurd (false≢true some)
     by code (Some l) found some all =
         target_entry_same newest_rules room limits target
-        (applied_all newest_rules limits territories (all_edits target territories)) code l sound
+        (after_edits newest_rules limits territories (all_edits target territories)) code l sound
         after found
         (subst (λ ls. IsTargetEntry l (entry_of code ls)) (sym all)
         (made.target_entry code l found))

@@ -6,7 +6,7 @@ use Rattle.std.proofs.lemmas.Bool.Decides.{nat_tests}
 use Rattle.osn_days.specs.Rules.{newest_rules}
 use Rattle.osn_territory.specs.declared.period.Period.{Period}
 use Rattle.osn_territory.specs.declared.regime.Regime.{Regime}
-use Rattle.osn_territory.specs.Territory.{opened, Covers, periods_from, periods_of}
+use Rattle.osn_territory.specs.Territory.{of_one_regime, Covers, periods_from, periods_of}
 use Rattle.osn_territory.proofs.CoverFacts.{no_more_than_days}
 use Rattle.osn_register.specs.declared.edit.Edit.TheVariants.{AddLand}
 use Rattle.osn_register.specs.declared.limits.Limits.{Limits}
@@ -88,7 +88,7 @@ territory_made limits done l p ps es can none room first ascend starts =
     let count : length (starts_of (p ∷ ps)) ≤ limits.changes + 1 =
     omega (arith, ap length starts, can.sound.changes) in
     let size = length-starts_of ps in
-    let begun = opened p.regime in
+    let begun = of_one_regime p.regime in
     let source = period_source cited p.first in
     let given = opening_sources (period_source cited 1) in
     let begin : Placed = (parts.Territory, AddLand l.code l.name p.regime source) in

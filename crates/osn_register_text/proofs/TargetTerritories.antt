@@ -9,7 +9,7 @@ use Rattle.std.proofs.lemmas.Slice.Eq.{bytes_eq-Decides}
 use Rattle.std.specs.Str.{bytes_eq}
 use Rattle.osn_days.specs.Rules.{Rules}
 use Rattle.osn_territory.specs.declared.regime.Regime.{Regime}
-use Rattle.osn_territory.specs.Territory.{TerritoryModel, opened}
+use Rattle.osn_territory.specs.Territory.{TerritoryModel, of_one_regime}
 use Rattle.osn_territory.specs.Changes.{starts_on}
 use Rattle.osn_register.specs.declared.edit.Edit.{Edit}
 use Rattle.osn_register.specs.declared.limits.Limits.{Limits}
@@ -82,7 +82,7 @@ pub record Fit (p : Rules) (territories : List EntryModel) (l : EntryModel) : Ty
   pub current : Fits p l (entry_of l.code territories)
 
 opened_allowed : (p : Rules) (r : Regime) → 1 ≤ p.high → is_style_refused p r ≡ false →
-    Allowed p (opened r)
+    Allowed p (of_one_regime r)
 opened_allowed p r low style = record {
   opening = refl;
   days = ((omega arith, low), tt);
@@ -142,18 +142,18 @@ placed p limits target territories ls l low is fit None known fits =
     let new : EntryModel = record {
       code = l.code;
       name = l.name;
-      territory = opened r;
+      territory = of_one_regime r;
       sources = first_sources;
     } in
-    let first : Ascends (opened r) = record { starts = (omega arith, tt); years = tt } in
-    let same : differences both (opened r) l.territory ≡ es =
+    let first : Ascends (of_one_regime r) = record { starts = (omega arith, tt); years = tt } in
+    let same : differences both (of_one_regime r) l.territory ≡ es =
     later_is (Some l.sources) l.territory r opens.rest opens.is opens.from in
-    let made : Reaches both l.territory (opened r) es =
-    subst (Reaches both l.territory (opened r)) same
-    (reaches both l.territory (opened r) fit.up first) in
+    let made : Reaches both l.territory (of_one_regime r) es =
+    subst (Reaches both l.territory (of_one_regime r)) same
+    (reaches both l.territory (of_one_regime r) fit.up first) in
     let cited : Cites l.territory first_sources l.sources es =
     subst (Cites l.territory first_sources l.sources) same
-    (cites l.territory (opened r) first_sources l.sources fit.up first) in
+    (cites l.territory (of_one_regime r) first_sources l.sources fit.up first) in
     let added : entry_of l.code (ls ++ new ∷ []) ≡ Some new = added_here ls new known in
     let style : is_style_refused p r ≡ false =
     (subst (AreStyled p) opens.is fit.allowed.styles).0 in
@@ -172,14 +172,14 @@ placed p limits target territories ls l low is fit None known fits =
         (λ f refused. subst (λ o. IsOver limits o f) (sym is)
             (entry_limited p limits ls l r fit.code fit.name known style f refused)),
         are_limited p limits target both l.code l is es (ls ++ new ∷ []) new fit.code added made.due
-            (subst (AreValid p) same (differences_valid p both (opened r) l.territory
+            (subst (AreValid p) same (differences_valid p both (of_one_regime r) l.territory
             (opened_allowed p r low style) fit.allowed)),
       );
       others = λ other apart. edits_apart l.code other es (ls ++ new ∷ []) apart
           ∙ added_apart other ls new apart;
       target_entry = record {
         entry = record new {
-          territory = after es (opened r);
+          territory = after es (of_one_regime r);
           sources = cited_after es first_sources;
         };
         is = edits_here l.code es (ls ++ new ∷ []) new added;

@@ -6,7 +6,7 @@ use Rattle.std.proofs.lemmas.Bool.{eq-eqb, ne_eqb, cases_eq, false≢true, and_f
 use Rattle.std.specs.List.{flat_map}
 use Rattle.std.specs.Option.{option_or}
 use Rattle.osn_territory.specs.declared.regime.Regime.{Regime}
-use Rattle.osn_territory.specs.Territory.{TerritoryModel, opened, regime_at}
+use Rattle.osn_territory.specs.Territory.{TerritoryModel, of_one_regime, regime_at}
 use Rattle.osn_territory.specs.Changes.{starts_on}
 use Rattle.osn_register.specs.Answer.{period_source}
 use Rattle.osn_register.specs.Sources.{SourcesModel, opening_sources}
@@ -151,18 +151,20 @@ opened_with cited =
 
 later_starts : (cited : Option SourcesModel) (r : Regime) (n : ℕ) (ss : List (ℕ × Regime)) → 1 < n →
     IsFrom n ss →
-    flat_map (target_change (opened_with cited) (opened r)) ss ≡ flat_map (added_change cited) ss
+    flat_map (target_change (opened_with cited) (of_one_regime r)) ss
+    ≡ flat_map (added_change cited) ss
 later_starts cited r n [] low from = refl
 later_starts cited r n (s ∷ ss) low from =
-    ap (λ b. cond (b || false) (altered_change (opened_with cited) (regime_at (opened r) s.0) s)
+    ap (λ b. cond (b || false) (altered_change (opened_with cited) (regime_at
+    (of_one_regime r) s.0) s)
     (added_change cited s)
-    ++ flat_map (target_change (opened_with cited) (opened r)) ss)
+    ++ flat_map (target_change (opened_with cited) (of_one_regime r)) ss)
     (ne_eqb 1 s.0 (λ e. omega (arith, from.0)))
     ∙ ap (λ es. added_change cited s ++ es)
     (later_starts cited r (s.0 + 1) ss (omega (arith, from.0)) from.1)
 
 later_years : (cited : Option SourcesModel) (r : Regime) (ys : List (ℕ × ℕ)) →
-    flat_map (target_exception (opened_with cited) (opened r)) ys
+    flat_map (target_exception (opened_with cited) (of_one_regime r)) ys
     ≡ flat_map (added_exception cited) ys
 later_years cited r [] = refl
 later_years cited r (y ∷ ys) = ap (λ es. added_exception cited y ++ es) (later_years cited r ys)
@@ -174,25 +176,30 @@ opening_agrees cited =
 
 later_of : (cited : Option SourcesModel) (r : Regime) (rest : List (ℕ × Regime))
     (ys : List (ℕ × ℕ)) → IsFrom 2 rest →
-    differences (opened_with cited) (opened r) (record { starts = (1, r) ∷ rest; exceptions = ys })
+    differences (opened_with cited) (of_one_regime r) (record {
+      starts = (1, r) ∷ rest;
+      exceptions =
+          ys;
+    })
     ≡ later cited (record { starts = (1, r) ∷ rest; exceptions = ys })
 later_of cited r rest ys from =
     let both = opened_with cited in
     ap (λ b. (cond b [] (Alter 1 r (period_source cited 1) ∷ [])
-    ++ flat_map (target_change both (opened r)) rest)
-    ++ flat_map (target_exception both (opened r)) ys)
+    ++ flat_map (target_change both (of_one_regime r)) rest)
+    ++ flat_map (target_exception both (of_one_regime r)) ys)
     (and_from (is_same r r) (same_period both 1) (regime_itself r) (opening_agrees cited))
-    ∙ ap (λ es. es ++ flat_map (target_exception both (opened r)) ys)
+    ∙ ap (λ es. es ++ flat_map (target_exception both (of_one_regime r)) ys)
     (later_starts cited r 2 rest (omega arith) from)
     ∙ ap (λ es. flat_map (added_change cited) rest ++ es) (later_years cited r ys)
 
 pub later_is : (cited : Option SourcesModel) (w : TerritoryModel) (r : Regime)
     (rest : List (ℕ × Regime)) → w.starts ≡ (1, r) ∷ rest → IsFrom 2 rest →
-    differences (opened_with cited) (opened r) w ≡ later cited w
+    differences (opened_with cited) (of_one_regime r) w ≡ later cited w
 later_is cited w r rest is from =
     let same : (let v : TerritoryModel = record
     { starts = (1, r) ∷ rest; exceptions = w.exceptions } in v) ≡ w =
     ap (λ (ss : List (ℕ × Regime)). let v : TerritoryModel = record
     { starts = ss; exceptions = w.exceptions } in v) (sym is) in
-    subst (λ (v : TerritoryModel). differences (opened_with cited) (opened r) v ≡ later cited v)
+    subst (λ (v : TerritoryModel). differences (opened_with cited) (of_one_regime r) v
+    ≡ later cited v)
     same (later_of cited r rest w.exceptions from)

@@ -10,7 +10,7 @@ use Rattle.osn_days.specs.Rules.{newest_rules}
 use Rattle.osn_territory.specs.declared.period.Period.{Period}
 use Rattle.osn_territory.specs.declared.regime.Regime.{Regime}
 use Rattle.osn_territory.specs.Territory.{TerritoryModel}
-use Rattle.osn_register.specs.Named.{listing_of, named_of}
+use Rattle.osn_register.specs.NamedTerritories.{listing_of, named_of}
 use Rattle.osn_register.specs.Plain.{EntryModel, entry_of, sources_of, AreDistinct}
 use Rattle.osn_register.specs.Sources.{SourcesModel}
 use Rattle.osn_register_text.specs.WrittenText.{change_text, changes_text, territory_text}

@@ -3,7 +3,7 @@ use Rattle.std.proofs.Common.{◌≡◌, List, None, sym, subst, ◌∙◌}
 use Rattle.osn_days.specs.Rules.{newest_rules}
 use Rattle.osn_register.specs.declared.edit.Edit.{Edit}
 use Rattle.osn_register.specs.Lawful.{AreLawful}
-use Rattle.osn_register.specs.Plain.{RegisterModel, applied_all, IsWellFormed}
+use Rattle.osn_register.specs.Plain.{RegisterModel, after_edits, IsWellFormed}
 use Rattle.osn_register_text.specs.declared.plan_fault.PlanFault.{PlanFault}
 use Rattle.osn_register_text.specs.Fault.{first_renamed, IsTrialFault, IsFault}
 use Rattle.osn_register_text.specs.Plan.{IsPlan}
@@ -24,7 +24,7 @@ module _ (w r : RegisterModel) (sound : IsWellFormed newest_rules w)
 
     pub planned : AreLawful newest_rules r.limits r.territories tried →
         IsWellFormed newest_rules (record r {
-          territories = applied_all newest_rules r.limits r.territories tried;
+          territories = after_edits newest_rules r.limits r.territories tried;
         }) → IsPlan r.limits w.territories r.territories es
     planned lawful after =
         subst (IsPlan r.limits w.territories r.territories) (sym are)
@@ -33,7 +33,7 @@ module _ (w r : RegisterModel) (sound : IsWellFormed newest_rules w)
         current.territories named)
         (subst (AreLawful newest_rules r.limits r.territories) (same ∙ are) lawful)
         (subst (λ fs. IsWellFormed newest_rules (record r {
-          territories = applied_all newest_rules r.limits r.territories fs;
+          territories = after_edits newest_rules r.limits r.territories fs;
         })) (same ∙ are) after).territories)
 
     pub not_planned : (f : PlanFault) → IsTrialFault r.limits r.territories tried f →

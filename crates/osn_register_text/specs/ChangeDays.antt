@@ -4,8 +4,8 @@
 use Rattle.std.specs.Prelude.{ℕ, ℤ, List, [], ◌++◌, codes, Option, Some, None}
 use Rattle.osn_days.specs.Chain.{date_of, days_with_date}
 use Rattle.osn_days.specs.Rules.{Rules}
-use Rattle.osn_territory.specs.declared.dated.DatedDay.{DatedDay}
-use Rattle.osn_territory.specs.Dated.{dated_on}
+use Rattle.osn_territory.specs.declared.dating.DatedDay.{DatedDay}
+use Rattle.osn_territory.specs.Dating.{dated_on}
 use Rattle.osn_territory.specs.Territory.{TerritoryModel, regime_at}
 use Rattle.osn_pages.specs.Turn.{gap_words}
 use Rattle.osn_pages.specs.Words.{named_day}

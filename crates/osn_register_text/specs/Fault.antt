@@ -9,7 +9,7 @@ use Rattle.osn_register.specs.declared.refusal.Refusal.{Refusal as Reason}
 use Rattle.osn_register.specs.declared.refusal.Refusal.TheVariants.{TooManyLands, TooManyChanges}
 use Rattle.osn_register.specs.declared.refusal.Refusal.TheVariants.{TooManyExceptions}
 use Rattle.osn_register.specs.Lawful.{AreLawful, code_of}
-use Rattle.osn_register.specs.Plain.{EntryModel, entry_of, refusal, applied_all}
+use Rattle.osn_register.specs.Plain.{EntryModel, entry_of, refusal, after_edits}
 use Rattle.osn_register_text.specs.declared.plan_fault.PlanFault.{PlanFault}
 use Rattle.osn_register_text.specs.declared.plan_fault.PlanFault.TheVariants.{Renamed, Refused}
 use Rattle.osn_register_text.specs.declared.plan_fault.PlanFault.TheVariants.{NoMemory}
@@ -56,7 +56,7 @@ pub record IsRefused (limits : Limits) (target territories : List EntryModel) (c
   pub lawful : AreLawful newest_rules limits territories before
   pub needed : AreNeeded target territories (before ++ edit ∷ [])
   pub has_code : code_of edit ≡ code
-  pub refused : refusal newest_rules limits (applied_all newest_rules limits territories before)
+  pub refused : refusal newest_rules limits (after_edits newest_rules limits territories before)
       edit ≡ Some reason
   pub over : IsOver limits (entry_of code target) reason
 
@@ -76,7 +76,7 @@ pub record IsRefusedAmong (limits : Limits) (territories : List EntryModel) (edi
   pub among : edits ≡ before ++ edit ∷ after
   pub lawful : AreLawful newest_rules limits territories before
   pub has_code : code_of edit ≡ code
-  pub refused : refusal newest_rules limits (applied_all newest_rules limits territories before)
+  pub refused : refusal newest_rules limits (after_edits newest_rules limits territories before)
       edit ≡ Some reason
 
 -- why edits are not taken

@@ -2,7 +2,7 @@
 -- it: this project's profile.
 use Rattle.std.specs.Prelude.{ℕ, if◌then◌else◌, List, [], ◌∷◌, ◌++◌, map, codes}
 use Rattle.std.specs.Prelude.{Option, Some, None}
-use Rattle.osn_lines.specs.Escape.{escaped}
+use Rattle.osn_lines.specs.Escape.{escaped_text}
 use Rattle.osn_register_text.specs.declared.key.Key.{Key}
 use Rattle.osn_register_text.specs.declared.key.Key.TheVariants as keys
 use Rattle.osn_register_text.specs.declared.key.Part.{Part}
@@ -42,7 +42,7 @@ rule_words = codes "julian" ∷ codes "gregorian" ∷ []
 -- help: calender: did you mean calendar?
 abbrev pub meant_line : List ℕ → List ℕ → List ℕ
 meant_line word name =
-    codes "help: " ++ (escaped word ++ (codes ": did you mean " ++ (name ++ codes "?\n")))
+    codes "help: " ++ (escaped_text word ++ (codes ": did you mean " ++ (name ++ codes "?\n")))
 
 abbrev pub if_meant : List ℕ → Option (List ℕ) → List ℕ
 if_meant word None = []
@@ -54,7 +54,7 @@ word_help names word = if_meant word (nearest_of names word)
 
 abbrev pub day_line : List ℕ → Option (List ℕ) → List ℕ
 day_line word None = codes "help: "
-    ++ (escaped word ++ codes ": a day has one key: gregorian, julian, swedish or day\n")
+    ++ (escaped_text word ++ codes ": a day has one key: gregorian, julian, swedish or day\n")
 day_line word (Some name) = meant_line word name
 
 -- the line on a key that no day has: the nearest key, or else all of them
@@ -78,7 +78,7 @@ key_line code = codes "help: "
 
 abbrev pub table_line : List ℕ → List ℕ
 table_line code = codes "help: "
-    ++ (escaped code
+    ++ (escaped_text code
     ++ codes ": write each territory as a table: [GB], for example, and its keys below\n")
 
 abbrev pub territory_help : List ℕ → List ℕ
@@ -88,11 +88,11 @@ territory_help code =
 -- the line on what is not a list, or not a row of one
 abbrev pub changes_help : List ℕ → List ℕ
 changes_help code = codes "help: write [["
-    ++ (escaped code ++ codes ".changes]] above the keys of each change\n")
+    ++ (escaped_text code ++ codes ".changes]] above the keys of each change\n")
 
 abbrev pub easters_help : List ℕ → List ℕ
 easters_help code = codes "help: write [["
-    ++ (escaped code ++ codes ".easters]] above the keys of each listed Easter\n")
+    ++ (escaped_text code ++ codes ".easters]] above the keys of each listed Easter\n")
 
 abbrev pub table_help : List ℕ → Part → List ℕ
 table_help code parts.Territory = territory_help code

@@ -4,7 +4,7 @@ use Rattle.osn_days.specs.Rules.{newest_rules}
 use Rattle.osn_register.specs.declared.limits.Limits.{Limits}
 use Rattle.osn_register.specs.declared.edit.Edit.{Edit}
 use Rattle.osn_register.specs.Lawful.{AreLawful}
-use Rattle.osn_register.specs.Plain.{EntryModel, entry_of, applied_all}
+use Rattle.osn_register.specs.Plain.{EntryModel, entry_of, after_edits}
 use Rattle.osn_register.specs.SameEntry.{AreSameEntry}
 use Rattle.osn_register_text.specs.NeededEdits.{AreNeeded}
 use Rattle.osn_register_text.specs.PlanOrder.{AreInOrder}
@@ -24,9 +24,9 @@ pub record IsPlan (limits : Limits) (target territories : List EntryModel) (edit
     : Type 0
   where
     pub lawful : AreLawful newest_rules limits territories edits
-    pub stand : AgreeWithTarget target (applied_all newest_rules limits territories edits)
+    pub stand : AgreeWithTarget target (after_edits newest_rules limits territories edits)
     pub others : (code : List ℕ) → entry_of code target ≡ None →
-        entry_of code (applied_all newest_rules limits territories edits)
+        entry_of code (after_edits newest_rules limits territories edits)
         ≡ entry_of code territories
     pub needed : AreNeeded target territories edits
     pub idle : AgreeWithTarget target territories → edits ≡ []

@@ -15,7 +15,7 @@ use Rattle.osn_register_text.specs.declared.fault.TomlFault.{TomlFault}
 use Rattle.osn_register_text.specs.declared.fault.TextFault.{TextFault}
 use Rattle.osn_register_text.specs.declared.fault.TextFault.TheVariants as faults
 use Rattle.osn_register_text.specs.Key.{allowed_at, key_name, keys_text, part_text}
-use Rattle.osn_lines.specs.Escape.{escaped}
+use Rattle.osn_lines.specs.Escape.{escaped_text}
 
 -- what is wrong with the value at a key
 abbrev pub value_text : Key → ValueFault → List ℕ
@@ -24,7 +24,8 @@ value_text key values.Form = allowed_at key
 value_text key (values.UnknownDayKey name) = allowed_at key
 value_text key (values.UnknownWord word) =
     codes "\""
-    ++ (escaped word ++ (codes "\" is not a " ++ (key_name key ++ (codes ": " ++ allowed_at key))))
+    ++ (escaped_text word
+    ++ (codes "\" is not a " ++ (key_name key ++ (codes ": " ++ allowed_at key))))
 value_text key values.Unquoted = codes
     "put the date in quotes, such as { gregorian = \"1752-09-14\" }"
 value_text key (values.NoSuchDate calendar) =
@@ -34,7 +35,7 @@ value_text key (values.NoSuchDate calendar) =
 abbrev pub reason_text : Part → Reason → List ℕ
 reason_text part reasons.NotTable = codes ": write a table"
 reason_text part (reasons.UnknownKey name) =
-    codes "." ++ (escaped name ++ (codes ": unknown key: " ++ keys_text part))
+    codes "." ++ (escaped_text name ++ (codes ": unknown key: " ++ keys_text part))
 reason_text part (reasons.Value key fault) =
     codes "." ++ (key_name key ++ (codes ": " ++ value_text key fault))
 reason_text part reasons.NotEdition =
@@ -46,7 +47,7 @@ reason_text part (reasons.Refused refusal) =
 
 -- the path to what is wrong in a text, and what is wrong
 abbrev pub key_fault_text : KeyFault → List ℕ
-key_fault_text f = escaped f.code ++ (part_text f.part ++ reason_text f.part f.reason)
+key_fault_text f = escaped_text f.code ++ (part_text f.part ++ reason_text f.part f.reason)
 
 abbrev pub toml_fault_text : TomlFault → List ℕ
 toml_fault_text f =

@@ -6,7 +6,7 @@ ghost use Rattle.osn_register_text.specs.FaultHelp as spec;
 use crate::fault::{KeyFault, Reason, TextFault, ValueFault};
 use crate::key::{Key, Part};
 use crate::nearest::nearest_of;
-use osn_lines::Escaped;
+use osn_lines::EscapedText;
 use std::alloc::{AllocError, Global};
 use std::fmt::Write;
 
@@ -51,7 +51,7 @@ fn push_word_help(
         ++ spec.word_help (map (λ name. name.now) names.now) word.now) }
 {
     match nearest_of(alloc, word, names)? {
-        Some(name) => writeln!(lines, "help: {}: did you mean {name}?", Escaped(word)),
+        Some(name) => writeln!(lines, "help: {}: did you mean {name}?", EscapedText(word)),
         None => Ok(()),
     }
 }
@@ -70,11 +70,11 @@ fn push_day_help(lines: &mut String, alloc: Global, word: &str) -> Result<(), Al
         ≡ string_bytes lines.old ++ spec.day_help word.now) }
 {
     match nearest_day_key(alloc, word)? {
-        Some(name) => writeln!(lines, "help: {}: did you mean {name}?", Escaped(word)),
+        Some(name) => writeln!(lines, "help: {}: did you mean {name}?", EscapedText(word)),
         None => writeln!(
             lines,
             "help: {}: a day has one key: gregorian, julian, swedish or day",
-            Escaped(word)
+            EscapedText(word)
         ),
     }
 }
@@ -128,7 +128,7 @@ fn push_territory_help(lines: &mut String, code: &str) -> Result<(), AllocError>
         writeln!(
             lines,
             "help: {}: write each territory as a table: [GB], for example, and its keys below",
-            Escaped(code)
+            EscapedText(code)
         )
     }
 }
@@ -141,7 +141,7 @@ fn push_changes_help(lines: &mut String, code: &str) -> Result<(), AllocError>
     writeln!(
         lines,
         "help: write [[{}.changes]] above the keys of each change",
-        Escaped(code)
+        EscapedText(code)
     )
 }
 
@@ -153,7 +153,7 @@ fn push_easters_help(lines: &mut String, code: &str) -> Result<(), AllocError>
     writeln!(
         lines,
         "help: write [[{}.easters]] above the keys of each listed Easter",
-        Escaped(code)
+        EscapedText(code)
     )
 }
 

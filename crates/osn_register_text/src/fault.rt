@@ -3,7 +3,7 @@ ghost use Rattle.std.specs.Prelude.{Some};
 
 use crate::key::{Key, Part};
 use osn_days::{Calendar, Keyword};
-use osn_lines::Escaped;
+use osn_lines::EscapedText;
 use osn_register::{Refusal, Text};
 use osn_request::refusal_message;
 use std::alloc::AllocError;
@@ -106,7 +106,7 @@ impl<'a> fmt::Display for ValueText<'a> {
                 write!(
                     f,
                     "\"{}\" is not a {}: {allowed_text}",
-                    Escaped(word.as_str()),
+                    EscapedText(word.as_str()),
                     self.key.name()
                 )
             }
@@ -139,7 +139,7 @@ impl<'a> fmt::Display for ReasonText<'a> {
                 write!(
                     f,
                     ".{}: unknown key: {}",
-                    Escaped(name.as_str()),
+                    EscapedText(name.as_str()),
                     self.part.keys_text()
                 )
             }
@@ -170,7 +170,7 @@ impl fmt::Display for KeyFault {
             part,
             reason: &self.reason,
         };
-        write!(f, "{}{part}{reason}", Escaped(self.code.as_str()))
+        write!(f, "{}{part}{reason}", EscapedText(self.code.as_str()))
     }
 }
 

@@ -2,7 +2,7 @@
 ghost use Rattle.std.specs.Prelude.{◌≡◌, None, OnOk, IfErr};
 ghost use Rattle.osn_days.specs.Rules.{newest_rules};
 ghost use Rattle.osn_register.specs.Lawful.{AreLawful};
-ghost use Rattle.osn_register.specs.Plain.{refusal, applied_all, IsWellFormed};
+ghost use Rattle.osn_register.specs.Plain.{refusal, after_edits, IsWellFormed};
 ghost use Rattle.osn_register_text.specs.Fault as spec;
 
 use crate::plan_fault::PlanFault;
@@ -29,7 +29,7 @@ pub(crate) fn try_edits(register: &Register, edits: &[Edit]) -> Result<(), PlanF
     ensures lawful { OnOk result
         (AreLawful newest_rules register.now.limits register.now.territories edits.now) }
     ensures well_formed { OnOk result (IsWellFormed newest_rules (record register.now {
-      territories = applied_all newest_rules register.now.limits register.now.territories edits.now;
+      territories = after_edits newest_rules register.now.limits register.now.territories edits.now;
     })) }
     ensures err { IfErr result
         (spec.IsTrialFault register.now.limits register.now.territories edits.now) }

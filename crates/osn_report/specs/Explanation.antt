@@ -23,7 +23,7 @@ use Rattle.osn_request.specs.declared.wire_fault.WireFault.TheVariants.{LineTooL
 use Rattle.osn_request.specs.declared.wire_fault.WireFault.TheVariants.{NotObject, BadHead}
 use Rattle.osn_request.specs.declared.wire_fault.WireFault.TheVariants.{BadField}
 use Rattle.osn_request.specs.declared.member.Member.TheVariants as members
-use Rattle.osn_lines.specs.Escape.{escaped}
+use Rattle.osn_lines.specs.Escape.{escaped_text}
 use Rattle.osn_report.specs.OpenFailure.{cause_text}
 use Rattle.osn_report.specs.declared.fault.CommandFault.{CommandFault}
 use Rattle.osn_report.specs.declared.fault.CommandFault.TheVariants as faults
@@ -37,7 +37,7 @@ change_text changes.Other = codes "write fault"
 
 -- the line of a note with this message on the file of a path
 abbrev pub note : List ℕ → List ℕ → List ℕ
-note path said = codes "note: " ++ (escaped path ++ (codes ": " ++ (said ++ codes "\n")))
+note path said = codes "note: " ++ (escaped_text path ++ (codes ": " ++ (said ++ codes "\n")))
 
 -- ---- a bad line of a journal
 
@@ -45,7 +45,7 @@ note path said = codes "note: " ++ (escaped path ++ (codes ": " ++ (said ++ code
 -- how one begins
 abbrev pub head_text : List ℕ → List ℕ
 head_text path = codes "help: "
-    ++ (escaped path
+    ++ (escaped_text path
     ++ (codes " is not a journal: --journal FILE names one, and "
     ++ codes "oldstyle publish FILE TEXT begins one in a new or empty file\n"))
 
@@ -53,7 +53,7 @@ head_text path = codes "help: "
 abbrev pub torn_text : ℕ → List ℕ → List ℕ
 torn_text line path = codes "help: if line " ++ (decimal line
     ++ (codes " is the last, a run that was stopped left it unfinished: oldstyle serve --keep "
-    ++ (escaped path ++ codes " < /dev/null cuts it off\n")))
+    ++ (escaped_text path ++ codes " < /dev/null cuts it off\n")))
 
 -- the help with the first line, if it is not the head of a journal, and with a later one, if it is
 -- not JSON
@@ -87,7 +87,7 @@ form_text Transcript = codes
 
 abbrev pub form_line : List ℕ → Role → List ℕ
 form_line path role =
-    codes "help: " ++ (escaped path ++ (codes ": " ++ (form_text role ++ codes "\n")))
+    codes "help: " ++ (escaped_text path ++ (codes ": " ++ (form_text role ++ codes "\n")))
 
 -- a line is of another kind: it is not an object, or lacks the member that all of them have
 abbrev pub is_other_kind : Role → WireFault → Bool

@@ -1,15 +1,15 @@
 -- What was done in a folder by a command that reads its files.
 use Rattle.std.specs.Prelude.{Bool, List, [], ◌∷◌, ℕ, Option}
-use Rattle.osn_folder.specs.Folder.{Known, Changes, IsFileOf, Opens}
+use Rattle.osn_folder.specs.Folder.{FolderModel, Changes, IsFileOf, Opens}
 use Rattle.osn_lines.specs.Streams.{Input}
 
 -- what is known of the folder before and after
 pub record Folders : Type 0 where
-  pub before : Option Known
-  pub after : Option Known
+  pub before : Option FolderModel
+  pub after : Option FolderModel
 
 -- what is known of a folder before and after, by its ghost
-abbrev pub folders_of : {D : Type 0} → (D → Option Known) → D → D → Folders
+abbrev pub folders_of : {D : Type 0} → (D → Option FolderModel) → D → D → Folders
 folders_of known old new = record { before = known old; after = known new }
 
 -- a file of this path gave the bytes that were read, and a read of it failed only if one of its

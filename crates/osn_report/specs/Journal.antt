@@ -2,7 +2,7 @@
 use Rattle.std.specs.Prelude.{◌≡◌, ℕ, List, Option, Some, None}
 use Rattle.osn_days.specs.Rules.{newest_rules}
 use Rattle.osn_register.specs.declared.limits.Limits.{Limits}
-use Rattle.osn_core.specs.Sequential.{ObjectState, opened}
+use Rattle.osn_core.specs.Sequential.{ObjectState, empty_object}
 use Rattle.osn_lines.specs.Streams.{Input}
 use Rattle.osn_files.specs.Journal.{load}
 use Rattle.osn_files.specs.declared.fault.FileFault.{FileFault}
@@ -19,7 +19,7 @@ MakesNoObject limits = IsFileFault Journal (load newest_rules limits)
 
 -- the object to begin with: that of the journal, if there is one, or else an empty one
 abbrev pub Begins : Limits → Option Input → ObjectState → Type 0
-Begins limits None s = s ≡ opened limits
+Begins limits None s = s ≡ empty_object limits
 Begins limits (Some journal) s = MakesObject limits journal.bytes s
 
 -- why there is no object to begin with

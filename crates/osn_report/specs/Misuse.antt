@@ -3,7 +3,7 @@ use Rattle.std.specs.Prelude.{ℕ, List, ◌++◌, codes}
 use Rattle.std.specs.Fmt.{decimal}
 use Rattle.osn_days.specs.CalendarWords.{calendar_word}
 use Rattle.osn_days.specs.Weekday.{weekday_name}
-use Rattle.osn_lines.specs.Escape.{escaped}
+use Rattle.osn_lines.specs.Escape.{escaped_text}
 use Rattle.osn_written.specs.declared.written_date.DateFault.{DateFault}
 use Rattle.osn_written.specs.declared.written_date.DateFault.TheVariants as faults
 use Rattle.osn_written.specs.WrittenDate.{month_day_words}
@@ -112,4 +112,5 @@ misuse_text Shell = codes "a shell is bash, zsh or fish"
 -- the line on standard error, which begins with the argument as it was typed
 abbrev pub misuse_line : Misuse → List ℕ → List ℕ
 misuse_line misuse argument =
-    codes "oldstyle: " ++ (escaped argument ++ (codes ": " ++ (misuse_text misuse ++ codes "\n")))
+    codes "oldstyle: " ++ (escaped_text argument ++ (codes ": " ++ (misuse_text misuse
+    ++ codes "\n")))

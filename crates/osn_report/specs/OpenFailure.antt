@@ -3,7 +3,7 @@ use Rattle.std.specs.Prelude.{ℕ, List, ◌++◌, codes}
 use Rattle.osn_folder.specs.declared.fault.OpenFailed.{OpenFailed}
 use Rattle.osn_folder.specs.declared.fault.OpenFailed.TheVariants.{NotFound, PermissionDenied}
 use Rattle.osn_folder.specs.declared.fault.OpenFailed.TheVariants.{NoFolder, IsDirectory, Other}
-use Rattle.osn_lines.specs.Escape.{escaped}
+use Rattle.osn_lines.specs.Escape.{escaped_text}
 
 abbrev pub cause_text : OpenFailed → List ℕ
 cause_text NotFound = codes "no such file"
@@ -15,4 +15,4 @@ cause_text Other = codes "read fault"
 -- the line on the file of a path
 abbrev pub open_failure_line : List ℕ → OpenFailed → List ℕ
 open_failure_line path cause =
-    codes "oldstyle: " ++ (escaped path ++ (codes ": " ++ (cause_text cause ++ codes "\n")))
+    codes "oldstyle: " ++ (escaped_text path ++ (codes ": " ++ (cause_text cause ++ codes "\n")))

@@ -11,7 +11,7 @@ use crate::open_failure::{cause_text, report_open_failure};
 use crate::status::Status;
 use osn_files::{FileFault, LineFault, Role};
 use osn_folder::{ChangeCause, FollowFault, KeepFault, KeptFileFault};
-use osn_lines::{Escaped, Sink};
+use osn_lines::{EscapedText, Sink};
 use osn_request::{Member, WireFault};
 use std::alloc::{AllocError, Global};
 
@@ -32,7 +32,7 @@ fn note(alloc: Global, path: &str, message: &str) -> Result<Option<String>, Allo
     ensures { IfOk result (λ text.
         option_map string_bytes text ≡ Some (spec.note path.now message.now)) }
 {
-    Ok(Some(format!(in alloc; "note: {}: {message}\n", Escaped(path))?))
+    Ok(Some(format!(in alloc; "note: {}: {message}\n", EscapedText(path))?))
 }
 
 /// Returns the text that a file is not a journal, how the journal is named if its word was left
@@ -43,7 +43,7 @@ fn head_text(alloc: Global, path: &str) -> Result<String, AllocError>
     format!(in alloc;
         "help: {} is not a journal: --journal FILE names one, and oldstyle publish FILE TEXT \
 begins one in a new or empty file\n",
-        Escaped(path)
+        EscapedText(path)
     )
 }
 
@@ -55,7 +55,7 @@ fn torn_text(alloc: Global, line: u64, path: &str) -> Result<String, AllocError>
         "help: if line {line} is the last, a run that was stopped left it unfinished: \
 oldstyle serve --keep {} \
 < /dev/null cuts it off\n",
-        Escaped(path)
+        EscapedText(path)
     )
 }
 
@@ -129,7 +129,7 @@ fn form_text(role: Role) -> &'static str
 fn form_line(alloc: Global, path: &str, role: Role) -> Result<String, AllocError>
     ensures { IfOk result (λ text. string_bytes text ≡ spec.form_line path.now role) }
 {
-    format!(in alloc; "help: {}: {}\n", Escaped(path), form_text(role))
+    format!(in alloc; "help: {}: {}\n", EscapedText(path), form_text(role))
 }
 
 /// Returns whether a line is of another kind than those of a file: it is not an object, or lacks

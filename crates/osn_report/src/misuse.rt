@@ -7,7 +7,7 @@ ghost use Rattle.osn_report.specs.Messages.{ReportsMisuse};
 use crate::fault_report::report_line;
 use crate::status::Status;
 use osn_days::{Calendar, Keyword, Weekday};
-use osn_lines::{Escaped, Sink};
+use osn_lines::{EscapedText, Sink};
 use osn_written::DateFault;
 use std::alloc::{AllocError, Global};
 use std::fmt;
@@ -215,7 +215,7 @@ write the month by its name, or use --order dmy or mdy",
 pub fn misuse_line(alloc: Global, misuse: Misuse, argument: &str) -> Result<String, AllocError>
     ensures { IfOk result (λ line. string_bytes line ≡ spec.misuse_line misuse argument.now) }
 {
-    format!(in alloc; "oldstyle: {}: {misuse}\n", Escaped(argument))
+    format!(in alloc; "oldstyle: {}: {misuse}\n", EscapedText(argument))
 }
 
 /// Reports on standard error what an argument must be, with the argument as it was typed. Returns

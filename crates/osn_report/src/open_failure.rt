@@ -7,7 +7,7 @@ ghost use Rattle.osn_report.specs.OpenFailure as spec;
 use crate::fault_report::report_line;
 use crate::status::Status;
 use osn_folder::OpenFailed;
-use osn_lines::{Escaped, Sink};
+use osn_lines::{EscapedText, Sink};
 use std::alloc::{AllocError, Global};
 
 /// Returns the text on why a file could not be opened.
@@ -28,7 +28,7 @@ fn open_failure_line(alloc: Global, path: &str, cause: OpenFailed) -> Result<Str
     ensures { IfOk result (λ line. string_bytes line ≡ spec.open_failure_line path.now cause) }
 {
     let cause = cause_text(cause);
-    format!(in alloc; "oldstyle: {}: {cause}\n", Escaped(path))
+    format!(in alloc; "oldstyle: {}: {cause}\n", EscapedText(path))
 }
 
 /// Reports on standard error why the file of this path could not be opened. Returns the status.

@@ -9,7 +9,8 @@ use Rattle.osn_core.specs.Sequential.{ObjectState}
 use Rattle.osn_register.specs.declared.limits.Limits.{Limits}
 use Rattle.osn_files.specs.JournalText.{journal_text}
 use Rattle.osn_folder.specs.Crash.{LeavesAllSafe}
-use Rattle.osn_folder.specs.Folder.{Known, Changes, IsFileIf, IsOneOf, IsOpenFailure, first_missed}
+use Rattle.osn_folder.specs.Folder.{FolderModel, Changes, IsFileIf, IsOneOf, IsOpenFailure}
+use Rattle.osn_folder.specs.Folder.{first_missed}
 use Rattle.osn_folder.specs.declared.fault.OpenFailed.{OpenFailed}
 use Rattle.osn_report.specs.Failure.{IsNotRead}
 use Rattle.osn_folder.specs.Folder.{IsFileOf, MayFail, Opens, path_if}
@@ -75,7 +76,7 @@ none_left f None h = refl
 none_left f (Some x) h = absurd (cc)
 
 module _ {E D J P : Type 0} (contents : E → Option (List ℕ)) (has_failed holds_back : E → Bool)
-    (known : D → Option Known) (bytes : J → List ℕ) (now : P → List ℕ)
+    (known : D → Option FolderModel) (bytes : J → List ℕ) (now : P → List ℕ)
     (loaded_bytes : Option (List ℕ)) (beside : Bool) (old mid new : E) (opened after : D)
     (was is : Status) where
   -- the messages before anything was saved, and all messages
@@ -205,7 +206,7 @@ one_of at (first ∷ paths) path is = by (is_some (at first)) is (one_of at path
     by false h rest = inl (sym (same_Some _ _ h))
 
 missed_first : (save : Option (List ℕ)) (paths : List (List ℕ)) (path : List ℕ)
-    (cause : OpenFailed) (old locked new : Option Known) → LocksIf save old locked
+    (cause : OpenFailed) (old locked new : Option FolderModel) → LocksIf save old locked
     → IsOpenFailure paths path cause locked new → IsOpenFailure paths path cause old new
 missed_first None paths path cause old locked new same h =
     subst (λ k. IsOpenFailure paths path cause k new) same h
@@ -217,7 +218,7 @@ missed_first (Some save) paths path cause (Some k) (Some m) new lock h =
     subst (λ n. IsOpenFailure paths path cause (Some n) new) lock.0 h
 
 pub not_opened : (save : Option (List ℕ)) (paths : List (List ℕ)) (path named : List ℕ)
-    (fault : CommandFault) (cause : OpenFailed) (old locked new : Option Known)
+    (fault : CommandFault) (cause : OpenFailed) (old locked new : Option FolderModel)
     → LocksIf save old locked → (path ≡ named) × (fault ≡ ReadFault cause)
     → IsOpenFailure paths named cause locked new
     → IsNotRead paths (record { before = old; after = new }) path fault
@@ -239,7 +240,7 @@ may_fail_if remaining has_failed (Some old) (Some new) = λ e. (new, e)
 
 -- what it will give
 pub given_if : {S : Type 0} (remaining : S → Option (List ℕ)) (has_failed : S → Bool)
-    (known : Option Known) (path : Option (List ℕ)) (old new : Option S)
+    (known : Option FolderModel) (path : Option (List ℕ)) (old new : Option S)
     → IsFileIf known path (option_map remaining old)
     → IsFileIf known path
     (option_map (λ journal. journal.bytes) (input_if remaining has_failed old new))
@@ -263,7 +264,7 @@ replaces_journal (Some journal) (Some save) path h = ap Some (of_journal journal
 
 -- the journal that is replaced could not be opened once it was locked
 pub replaced_open_failure : (journal save lock : Option (List ℕ)) (replaced path named : List ℕ)
-    (fault : CommandFault) (cause : OpenFailed) (old locked new : Option Known)
+    (fault : CommandFault) (cause : OpenFailed) (old locked new : Option FolderModel)
     → replaced_path journal save ≡ Some replaced → LocksIf lock old locked
     → (path ≡ named) × (fault ≡ ReadFault cause)
     → IsOpenFailure (replaced ∷ []) named cause locked new
@@ -280,7 +281,8 @@ same_content None content is = tt
 same_content (Some input) content is = sym is
 
 -- the bytes that were read whole are those of the file
-pub read_whole : (known : Option Known) (path content : List ℕ) (bytes initial : Option (List ℕ))
+pub read_whole : (known : Option FolderModel) (path content : List ℕ) (bytes initial : Option
+    (List ℕ))
     → IsFileOf known path bytes → IfSome bytes (λ input. content ≡ input) → initial ≡ Some content
     → IsFileOf known path initial
 read_whole None path content bytes initial is read same = tt
@@ -292,7 +294,7 @@ read_whole (Some k) path content (Some input) initial is read same = (
 
 module _ (limits : Limits) (journal save : Option (List ℕ)) (rules : ServeRules)
     (CanFail : Bool → Type 0) (d : Folders) (i : Input) (o e : Output) (status : Status)
-    (opened : Option Known) where
+    (opened : Option FolderModel) where
   -- the service was run, and no file is replaced
   pub service_ran : (initial : Option Input) → replaced_path journal save ≡ None
       → IsFileIf d.before journal (option_map (λ journal. journal.bytes) initial)

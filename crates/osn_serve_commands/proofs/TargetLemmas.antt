@@ -8,7 +8,7 @@ use Rattle.osn_files.specs.declared.fault.FileFault.{FileFault}
 use Rattle.osn_files.specs.declared.fault.FileFault.TheVariants as file_faults
 use Rattle.osn_files.specs.declared.fault.Role.TheVariants as roles
 use Rattle.osn_folder.specs.Crash.{LeavesAllSafe}
-use Rattle.osn_folder.specs.Folder.{Known, Changes}
+use Rattle.osn_folder.specs.Folder.{FolderModel, Changes}
 use Rattle.osn_lines.specs.Lines.{lines}
 use Rattle.osn_lines.specs.Streams.{Input, Output}
 use Rattle.osn_register.specs.declared.limits.Limits.{Limits}
@@ -24,7 +24,7 @@ use Rattle.osn_serve_commands.specs.declared.target.TargetFault.TheVariants.{NoJ
 use Rattle.osn_serve_commands.specs.declared.target.TargetFault.TheVariants.{NotRead, NoMemory}
 
 -- if nothing was done, a crash leaves what it left
-pub same_safe : (known : Option Known) → Changes LeavesAllSafe known known
+pub same_safe : (known : Option FolderModel) → Changes LeavesAllSafe known known
 same_safe None = tt
 same_safe (Some k) = (refl, refl, refl)
 
@@ -55,7 +55,7 @@ not_loaded limits content input Spared Failed file_faults.ReadFault NoJournal is
 not_loaded limits content input Spared Failed file_faults.NoMemory NoJournal is same h = absurd (cc)
 
 -- a journal is not saved over what was found
-pub target_refused : (limits : Limits) (save : Option (List ℕ)) (opened after : Option Known)
+pub target_refused : (limits : Limits) (save : Option (List ℕ)) (opened after : Option FolderModel)
     (o e : Output) (status : Status) (path : List ℕ) (fault : TargetFault)
     → path ≡ unwrap_or save [] → FindsNoTarget limits save opened after fault → o.new ≡ o.old
     → ReportsTarget path e fault status → RefusesTarget limits save opened after o e status
@@ -64,7 +64,8 @@ target_refused limits save opened after o e status path fault at found same mess
 
 -- the service was run, and its journal saved over what was found
 pub saved_over : (limits : Limits) (named input : List ℕ) (save locked : Option (List ℕ))
-    (rules : ServeRules) (initial : Option Input) (opened looked after : Option Known) (i : Input)
+    (rules : ServeRules) (initial : Option Input) (opened looked after : Option FolderModel)
+    (i : Input)
     (o e : Output) (status : Status) (found : SaveTarget) (bytes : Option (List ℕ)) (beside : Bool)
     → input ≡ named → locked ≡ save → FindsTarget limits save opened looked found
     → Changes LeavesAllSafe opened looked

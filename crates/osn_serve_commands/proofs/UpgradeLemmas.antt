@@ -3,7 +3,7 @@ use Rattle.std.proofs.Common.{◌≡◌, ℕ, Bool, List, Option, Some, None, Re
 use Rattle.std.proofs.Common.{OnOk, inl, inr, sym, subst}
 use Rattle.std.specs.Option.{MatchOption}
 use Rattle.osn_register.specs.declared.limits.Limits.{Limits}
-use Rattle.osn_folder.specs.Folder.{Known, Changes, IsKeptAt, Keeps, Leaves}
+use Rattle.osn_folder.specs.Folder.{FolderModel, Changes, IsKeptAt, Keeps, Leaves}
 use Rattle.osn_lines.specs.Streams.{Input, Output}
 use Rattle.osn_report.specs.Folders.{Folders}
 use Rattle.osn_report.specs.Messages.{ReportsAt}
@@ -38,7 +38,8 @@ both_ok (Err x) P Q R p q f = tt
 -- ---- what was done in the folder
 
 -- a file was looked at
-pub looked_at : (path : List ℕ) (CanFail : Bool → Type 0) (before between after : Option Known)
+pub looked_at : (path : List ℕ) (CanFail : Bool
+    → Type 0) (before between after : Option FolderModel)
     (contents : Option (List ℕ)) (input : Input) → Changes (Keeps path) before between
     → IsKeptAt before path contents → input.bytes ≡ contents → CanFail input.unread
     → Changes (Leaves path contents) between after → IsLookedAt path CanFail before after input
@@ -51,7 +52,7 @@ looked_at path CanFail before between after contents input keeps kept same fails
 }
 
 module _ (limits : Limits) (path : List ℕ) (CanFail : Bool → Type 0) (d : Folders) (e : Output)
-    (looked : Option Known) (input : Input)
+    (looked : Option FolderModel) (input : Input)
     (looks : IsLookedAt path CanFail d.before looked input) where
   -- its version has sources, and it was left
   pub upgrade_left : IsNewest limits input.bytes → d.after ≡ looked → e.new ≡ e.old

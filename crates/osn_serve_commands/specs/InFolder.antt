@@ -13,7 +13,7 @@ use Rattle.osn_files.specs.JournalText.{journal_text}
 use Rattle.osn_files.specs.declared.fault.FileFault.{FileFault}
 use Rattle.osn_files.specs.declared.fault.FileFault.TheVariants.{ReadFault}
 use Rattle.osn_folder.specs.Crash.{LeavesAllSafe}
-use Rattle.osn_folder.specs.Folder.{Known, Changes, IsFileIf, Opens, path_if}
+use Rattle.osn_folder.specs.Folder.{FolderModel, Changes, IsFileIf, Opens, path_if}
 use Rattle.osn_folder.specs.Folder.{Keeps, CannotKeep, IsKeptAt, Leaves, Stays}
 use Rattle.osn_journal.specs.Arrivals.{Arrival}
 use Rattle.osn_folder.specs.declared.fault.KeepFault.{KeepFault}
@@ -69,8 +69,8 @@ IsLoadedContent initial loaded_bytes =
 
 -- the journal of an object was saved to a path, if one is given, or it was reported why that isn't
 -- sure. Otherwise nothing was written in the folder
-abbrev pub EndsSaving : Option (List ℕ) → Option (List ℕ) → Bool → ObjectState → Option Known
-    → Option Known → Output → Status → Type 0
+abbrev pub EndsSaving : Option (List ℕ) → Option (List ℕ) → Bool → ObjectState → Option FolderModel
+    → Option FolderModel → Output → Status → Type 0
 EndsSaving None loaded_bytes beside t opened after e status = (after ≡ opened) × Ends e None status
 EndsSaving (Some path) loaded_bytes beside t opened after e status =
     ((after ≡ opened) × EndsBy e NoMemory status)
@@ -80,7 +80,7 @@ EndsSaving (Some path) loaded_bytes beside t opened after e status =
 -- journal was saved.
 pub record ServesAndSaves (limits : Limits) (save : Option (List ℕ)) (rules : ServeRules)
     (initial : Option Input) (loaded_bytes : Option (List ℕ)) (beside : Bool)
-    (opened after : Option Known) (i : Input) (o e : Output) (status : Status) : Type 0 where
+    (opened after : Option FolderModel) (i : Input) (o e : Output) (status : Status) : Type 0 where
   pub first : ObjectState
   pub last : ObjectState
   pub result : Result Served (EndedEarly (ServiceFault Infallible))
@@ -97,7 +97,8 @@ CanFailIf CanFail initial = IfSome initial (λ journal. CanFail journal.unread)
 -- how a run of the service ended, whose journal has this path. It had no object to begin with, and
 -- wrote nothing; or it answered the lines, and its journal was saved
 abbrev pub EndsServing : Limits → List ℕ → Option (List ℕ) → ServeRules → Option Input
-    → Option (List ℕ) → Bool → Option Known → Option Known → Input → Output → Output → Status
+    → Option (List ℕ) → Bool → Option FolderModel → Option FolderModel → Input → Output → Output
+    → Status
     → Type 0
 EndsServing limits path save rules initial loaded_bytes beside opened after i o e status =
     ((fault : FileFault) × BeginsNot limits initial fault × (after ≡ opened)
@@ -117,19 +118,22 @@ is_left_beside NoFile = false
 is_left_beside Empty = false
 
 -- what was found at the path of a save, if there is one
-abbrev pub FindsTarget : Limits → Option (List ℕ) → Option Known → Option Known → SaveTarget
+abbrev pub FindsTarget : Limits → Option (List ℕ) → Option FolderModel → Option FolderModel
+    → SaveTarget
     → Type 0
 FindsTarget limits None before after found = (after ≡ before) × (found ≡ NoFile)
 FindsTarget limits (Some path) before after found = IsTarget limits path before after found
 
 -- no journal is saved over what was found there, by this fault
-abbrev pub FindsNoTarget : Limits → Option (List ℕ) → Option Known → Option Known → TargetFault
+abbrev pub FindsNoTarget : Limits → Option (List ℕ) → Option FolderModel → Option FolderModel
+    → TargetFault
     → Type 0
 FindsNoTarget limits None before after fault = ⊥
 FindsNoTarget limits (Some path) before after fault = IsNoTarget limits path before after fault
 
 -- it was reported, before a line was answered, why no journal is saved
-abbrev pub RefusesTarget : Limits → Option (List ℕ) → Option Known → Option Known → Output → Output
+abbrev pub RefusesTarget : Limits → Option (List ℕ) → Option FolderModel → Option FolderModel
+    → Output → Output
     → Status → Type 0
 RefusesTarget limits save before after o e status =
     (fault : TargetFault) × FindsNoTarget limits save before after fault × (o.new ≡ o.old)
@@ -137,10 +141,10 @@ RefusesTarget limits save before after o e status =
 
 -- the service was run, and its journal saved over what was found at its path; or that was refused
 abbrev pub SavesOverFound : Limits → List ℕ → Option (List ℕ) → ServeRules → Option Input
-    → Option Known → Option Known → Input → Output → Output → Status → Type 0
+    → Option FolderModel → Option FolderModel → Input → Output → Output → Status → Type 0
 SavesOverFound limits path save rules initial opened after i o e status =
     RefusesTarget limits save opened after o e status
-    ⊎ ((found : SaveTarget) × (looked : Option Known)
+    ⊎ ((found : SaveTarget) × (looked : Option FolderModel)
     × FindsTarget limits save opened looked found × Changes LeavesAllSafe opened looked
     × EndsServing limits path save rules initial (bytes_of found) (is_left_beside found) looked
     after
@@ -155,7 +159,7 @@ IsNotReadWhole journal fault =
 -- a journal that is replaced is read whole first: it could not be, and nothing was done; or the
 -- service was run, and its journal saved if that file was unchanged
 abbrev pub SavesOverLoaded : Limits → List ℕ → Option (List ℕ) → ServeRules → Option Input
-    → Option Known → Option Known → Input → Output → Output → Status → Type 0
+    → Option FolderModel → Option FolderModel → Input → Output → Output → Status → Type 0
 SavesOverLoaded limits path save rules initial opened after i o e status =
     ((fault : CommandFault) × IfSome initial (λ journal. IsNotReadWhole journal fault)
     × (after ≡ opened) × PrintsNoneAt path fault o e status)
@@ -165,7 +169,8 @@ SavesOverLoaded limits path save rules initial opened after i o e status =
 -- the service was run, and its journal saved: over the file that it was loaded from, or over what
 -- was found at another path
 abbrev pub ServesOver : Option (List ℕ) → Limits → List ℕ → Option (List ℕ) → ServeRules
-    → Option Input → Option Known → Option Known → Input → Output → Output → Status → Type 0
+    → Option Input → Option FolderModel → Option FolderModel → Input → Output → Output → Status
+    → Type 0
 ServesOver (Some replaced) limits path save rules initial opened after i o e status =
     SavesOverLoaded limits path save rules initial opened after i o e status
 ServesOver None limits path save rules initial opened after i o e status =
@@ -176,7 +181,7 @@ pub record RunsService (limits : Limits) (journal save : Option (List ℕ)) (rul
     (CanFail : Bool → Type 0) (d : Folders) (i : Input) (o e : Output) (status : Status) : Type 0
   where
     pub initial : Option Input
-    pub opened : Option Known
+    pub opened : Option FolderModel
     pub file : IsFileIf d.before journal (option_map (λ journal. journal.bytes) initial)
     pub fails : CanFailIf CanFail initial
     pub opens : Changes (Opens (path_if journal)) d.before opened
@@ -190,7 +195,7 @@ abbrev pub EndsService : Limits → Option (List ℕ) → Option (List ℕ) → 
 EndsService limits journal save rules CanFail d i o e status =
     ((fault : KeepFault) × CannotLockIf save fault d.before d.after
     × PrintsNoneAt (unwrap_or save []) (Keep fault) o e status)
-    ⊎ ((between : Option Known) × LocksIf save d.before between
+    ⊎ ((between : Option FolderModel) × LocksIf save d.before between
     × RunsService limits journal save rules CanFail
     (record { before = between; after = d.after }) i o e status)
 
@@ -203,7 +208,7 @@ abbrev pub EndsKeeping : Limits → List ℕ → ServeRules → (Bool → Type 0
 EndsKeeping limits path rules CanFail d i o e status =
     ((fault : KeepFault) × Changes (CannotKeep path fault) d.before d.after
     × PrintsNoneAt path (Keep fault) o e status)
-    ⊎ ((between : Option Known) × Changes (Keeps path) d.before between
+    ⊎ ((between : Option FolderModel) × Changes (Keeps path) d.before between
     × (initial : FileState) × IsKeptAt d.before path initial.contents × (initial.fault ≡ None)
     × (input : Input) × (input.bytes ≡ initial.contents) × CanFail input.unread
     × (file : FileState) × EndsKept limits path rules initial file input i o e status
@@ -213,7 +218,7 @@ EndsKeeping limits path rules CanFail d i o e status =
 pub record UpgradesAndKeeps (limits : Limits) (path : List ℕ) (rules : ServeRules)
     (CanFail : Bool → Type 0) (d : Folders) (i : Input) (o e : Output) (status : Status) : Type 0
   where
-    pub upgraded : Option Known
+    pub upgraded : Option FolderModel
     pub between : Option (List ℕ)
     pub failed : Bool
     pub held_back : Bool

@@ -5,7 +5,7 @@ use Rattle.std.specs.Prelude.{take, Option, Some, None, Result, Ok, Err, codes}
 use Rattle.std.specs.Fmt.{decimal}
 use Rattle.osn_days.specs.Rules.{newest_rules}
 use Rattle.osn_register.specs.declared.limits.Limits.{Limits}
-use Rattle.osn_core.specs.Sequential.{ObjectState, opened}
+use Rattle.osn_core.specs.Sequential.{ObjectState, empty_object}
 use Rattle.osn_lines.specs.Faults.{IsReadFault}
 use Rattle.osn_lines.specs.Lines.{lines}
 use Rattle.osn_lines.specs.Streams.{Input, Output}
@@ -42,7 +42,7 @@ use Rattle.osn_serve_commands.specs.Serve.{EndsServed}
 
 -- the object that lines make: an empty one if there are none
 abbrev pub object_of : Limits → List ℕ → Result ObjectState (ℕ × LineFault)
-object_of limits [] = Ok (opened limits)
+object_of limits [] = Ok (empty_object limits)
 object_of limits (b ∷ bs) = load newest_rules limits (lines (b ∷ bs))
 
 -- the object of a file, by its lines that count, or the first fault and the number of its line

@@ -1,6 +1,6 @@
 -- What a service that replaces the journal which it begins with has done.
 use Rattle.std.specs.Prelude.{◌≡◌, ◌⊎◌, false, List, ℕ, Option, Some, IfSome}
-use Rattle.osn_folder.specs.Folder.{Known}
+use Rattle.osn_folder.specs.Folder.{FolderModel}
 use Rattle.osn_lines.specs.Streams.{Input, Output}
 use Rattle.osn_register.specs.declared.limits.Limits.{Limits}
 use Rattle.osn_service.specs.declared.rules.ServeRules.{ServeRules}
@@ -17,8 +17,9 @@ pub record IsReadWhole (journal initial : Input) (content : List ℕ) : Type 0 w
 
 -- the journal could not be read whole, and nothing was done. Or it was, and the service was run,
 -- and the file that it replaces must still contain it
-abbrev pub ReplacesRead : Limits → List ℕ → Option (List ℕ) → ServeRules → Input → Option Known
-    → Option Known → Input → Output → Output → Status → Type 0
+abbrev pub ReplacesRead : Limits → List ℕ → Option (List ℕ) → ServeRules → Input
+    → Option FolderModel
+    → Option FolderModel → Input → Output → Output → Status → Type 0
 ReplacesRead limits path save rules journal opened after i o e status =
     ((fault : CommandFault) × IsNotReadWhole journal fault × (after ≡ opened)
     × PrintsNoneAt path fault o e status)

@@ -1,7 +1,8 @@
 -- What is at the path that a journal will be saved to, before a line is answered.
 use Rattle.std.specs.Prelude.{◌≡◌, ◌⊎◌, ⊤, ℕ, true, List, [], ◌∷◌, ◌++◌, codes, Option, None}
 use Rattle.osn_core.specs.Sequential.{ObjectState}
-use Rattle.osn_folder.specs.Folder.{Known, Changes, HasNoFile, IsCauseAt, IsFileOf, Opens, Stays}
+use Rattle.osn_folder.specs.Folder.{FolderModel, Changes, HasNoFile, IsCauseAt, IsFileOf, Opens}
+use Rattle.osn_folder.specs.Folder.{Stays}
 use Rattle.osn_folder.specs.declared.fault.ChangeCause.{ChangeCause}
 use Rattle.osn_folder.specs.declared.fault.ChangeCause.TheVariants as changes
 use Rattle.osn_folder.specs.declared.fault.OpenFailed.{OpenFailed}
@@ -22,7 +23,7 @@ use Rattle.osn_report.specs.Messages.{EndsBy, ReportsAt, ReportsIfMade}
 use Rattle.osn_report.specs.declared.fault.CommandFault.TheVariants as command_faults
 use Rattle.osn_report.specs.declared.status.Status.{Status}
 use Rattle.osn_report.specs.declared.status.Status.TheVariants as statuses
-use Rattle.osn_lines.specs.Escape.{escaped}
+use Rattle.osn_lines.specs.Escape.{escaped_text}
 use Rattle.std.specs.Prelude.{Some, Err}
 use Rattle.osn_serve_commands.specs.declared.target.SaveTarget.{SaveTarget}
 use Rattle.osn_serve_commands.specs.declared.target.SaveTarget.TheVariants.{NoFile, Empty}
@@ -60,17 +61,18 @@ HoldsNoTarget limits content NoMemory = ⊤
 -- ---- what is at a path
 
 -- the file of this path was opened and read whole
-abbrev pub ReadsWhole : List ℕ → List ℕ → Option Known → Option Known → Type 0
+abbrev pub ReadsWhole : List ℕ → List ℕ → Option FolderModel → Option FolderModel → Type 0
 ReadsWhole path content before after =
     Changes (Opens (path ∷ [])) before after × IsFileOf before path (Some content)
 
 -- no file is there: nothing, or what is not a file
-abbrev pub FindsNoFile : List ℕ → Known → Known → Type 0
+abbrev pub FindsNoFile : List ℕ → FolderModel → FolderModel → Type 0
 FindsNoFile path k n =
     (Stays k n × (k.paths.is_stream path ≡ true))
     ⊎ (Opens (path ∷ []) k n × (k.at path ≡ None) × (NotFound ≡ k.paths.cause path))
 
-abbrev pub IsTarget : Limits → List ℕ → Option Known → Option Known → SaveTarget → Type 0
+abbrev pub IsTarget : Limits → List ℕ → Option FolderModel → Option FolderModel → SaveTarget
+    → Type 0
 IsTarget limits path before after NoFile = Changes (FindsNoFile path) before after
 IsTarget limits path before after Empty = ReadsWhole path [] before after
 IsTarget limits path before after Journal =
@@ -83,7 +85,8 @@ cause_of PermissionDenied = changes.PermissionDenied
 cause_of cause = changes.Other
 
 -- a journal can't be saved over what is there, by this fault
-abbrev pub IsNoTarget : Limits → List ℕ → Option Known → Option Known → TargetFault → Type 0
+abbrev pub IsNoTarget : Limits → List ℕ → Option FolderModel → Option FolderModel → TargetFault
+    → Type 0
 IsNoTarget limits path before after NoJournal =
     (content : List ℕ) × ReadsWhole path content before after
     × HoldsNoTarget limits content NoJournal
@@ -98,7 +101,7 @@ IsNoTarget limits path before after NoMemory = Changes (Opens (path ∷ [])) bef
 -- what is printed about a file that no journal is saved to
 abbrev pub target_text : List ℕ → List ℕ → List ℕ
 target_text path why = codes "oldstyle: write fault\nhelp: "
-    ++ (escaped path ++ (codes " " ++ (why ++ codes ": name another file for --save\n")))
+    ++ (escaped_text path ++ (codes " " ++ (why ++ codes ": name another file for --save\n")))
 
 abbrev pub ReportsTarget : List ℕ → Output → TargetFault → Status → Type 0
 ReportsTarget path e NoJournal status = ReportsIfMade e statuses.WriteFault

@@ -8,7 +8,8 @@ use Rattle.osn_request.specs.Version.{has_sources, newest_version}
 use Rattle.osn_request.specs.declared.version.Version.{Version}
 use Rattle.osn_files.specs.JournalText.{journal_text_of}
 use Rattle.osn_folder.specs.Crash.{SavesSafely, CannotSaveSafely}
-use Rattle.osn_folder.specs.Folder.{Known, Changes, Keeps, CannotKeep, IsKeptAt, Leaves, Locks}
+use Rattle.osn_folder.specs.Folder.{FolderModel, Changes, Keeps, CannotKeep, IsKeptAt, Leaves}
+use Rattle.osn_folder.specs.Folder.{Locks}
 use Rattle.osn_folder.specs.Folder.{CannotLock}
 use Rattle.osn_folder.specs.declared.fault.KeepFault.{KeepFault}
 use Rattle.osn_folder.specs.declared.fault.SaveFault.{SaveFault}
@@ -24,28 +25,28 @@ use Rattle.osn_serve_commands.specs.Save.{ReportsUnsaved}
 
 -- the file of this path was locked, and a text put in its place, which still contained these bytes.
 -- A crash of the machine leaves one of the two
-abbrev pub SavesAnew : List ℕ → List ℕ → List ℕ → Option Known → Option Known → Type 0
+abbrev pub SavesAnew : List ℕ → List ℕ → List ℕ → Option FolderModel → Option FolderModel → Type 0
 SavesAnew path loaded_bytes text before after =
-    (between : Option Known) × Changes (Locks path) before between
+    (between : Option FolderModel) × Changes (Locks path) before between
     × SavesSafely path (Some loaded_bytes) text between after
 
 -- the file of this path could not be locked; or it was, and it isn't sure that the text is saved.
 -- It was reported why
-abbrev pub CannotSaveAnew : List ℕ → List ℕ → List ℕ → Option Known → Option Known
+abbrev pub CannotSaveAnew : List ℕ → List ℕ → List ℕ → Option FolderModel → Option FolderModel
     → Output → Status → Type 0
 CannotSaveAnew path loaded_bytes text before after e status =
     ((fault : KeepFault) × Changes (CannotLock path fault) before after
     × ReportsAt path e (Keep fault) status)
-    ⊎ ((between : Option Known) × Changes (Locks path) before between
+    ⊎ ((between : Option FolderModel) × Changes (Locks path) before between
     × (fault : SaveFault) × CannotSaveSafely path (Some loaded_bytes) text fault between after
     × ReportsUnsaved path e fault status)
 
 -- ---- a journal that will be kept
 
 -- The file of this path was kept, this was read of it, and it was given back as it was.
-pub record IsLookedAt (path : List ℕ) (CanFail : Bool → Type 0) (before after : Option Known)
+pub record IsLookedAt (path : List ℕ) (CanFail : Bool → Type 0) (before after : Option FolderModel)
     (input : Input) : Type 0 where
-  pub between : Option Known
+  pub between : Option FolderModel
   pub keeps : Changes (Keeps path) before between
   pub contents : IsKeptAt before path input.bytes
   pub fails : CanFail input.unread
@@ -58,7 +59,8 @@ IsReadAs limits input bytes version s =
 
 -- a journal was left if its version has sources. Otherwise it was rewritten, as one of the newest
 -- version, and it was reported which line was cut off, if the last one was not finished
-abbrev pub SavesIfOlder : Bool → List ℕ → List ℕ → ObjectState → Option Known → Option Known
+abbrev pub SavesIfOlder : Bool → List ℕ → List ℕ → ObjectState → Option FolderModel
+    → Option FolderModel
     → Output → Type 0
 SavesIfOlder true path bytes s before after e = (after ≡ before) × ReportsCut e None
 SavesIfOlder false path bytes s before after e =
@@ -68,7 +70,7 @@ SavesIfOlder false path bytes s before after e =
 -- The file of this path was looked at, and contains a journal of a version that has sources now.
 pub record Upgrades (limits : Limits) (path : List ℕ) (CanFail : Bool → Type 0) (d : Folders)
     (e : Output) : Type 0 where
-  pub looked : Option Known
+  pub looked : Option FolderModel
   pub input : Input
   pub looks : IsLookedAt path CanFail d.before looked input
   pub bytes : List ℕ
@@ -79,7 +81,8 @@ pub record Upgrades (limits : Limits) (path : List ℕ) (CanFail : Bool → Type
 
 -- a journal that was read was not rewritten. It makes no object, or memory ran out, and it was
 -- left; or it is of a version that has no sources, and could not be saved
-abbrev pub CannotSaveOlder : Limits → List ℕ → Input → Option Known → Option Known → Output
+abbrev pub CannotSaveOlder : Limits → List ℕ → Input → Option FolderModel → Option FolderModel
+    → Output
     → Status → Type 0
 CannotSaveOlder limits path input before after e status =
     ((fault : CommandFault) × (after ≡ before)
@@ -96,5 +99,6 @@ abbrev pub CannotUpgrade : Limits → List ℕ → (Bool → Type 0) → Folders
 CannotUpgrade limits path CanFail d e status =
     ((fault : KeepFault) × Changes (CannotKeep path fault) d.before d.after
     × ReportsAt path e (Keep fault) status)
-    ⊎ ((looked : Option Known) × (input : Input) × IsLookedAt path CanFail d.before looked input
+    ⊎ ((looked : Option FolderModel) ×
+    (input : Input) × IsLookedAt path CanFail d.before looked input
     × CannotSaveOlder limits path input looked d.after e status)

@@ -7,7 +7,7 @@ ghost use Rattle.osn_serve_commands.specs.Save.{ReportsUnsaved, beside_line, cha
 
 use crate::serve::ServeResult;
 use osn_folder::{Folder, KeepFault, SaveFault, save_beside, save_file};
-use osn_lines::{Escaped, Sink};
+use osn_lines::{EscapedText, Sink};
 use osn_report::{CommandFault, Status, report_at, report_line, report_no_memory, write_line};
 use std::alloc::{AllocError, Global};
 
@@ -47,7 +47,7 @@ fn changed_file_line(alloc: Global, unfinished_path: &str) -> Result<String, All
 {
     format!(in alloc;
         "oldstyle: the file was changed meanwhile, and is left as it is: the journal is in {}\n",
-        Escaped(unfinished_path)
+        EscapedText(unfinished_path)
     )
 }
 
@@ -57,8 +57,8 @@ fn beside_line(alloc: Global, path: &str, backup: &str) -> Result<String, AllocE
 {
     format!(in alloc;
         "note: {} contained another journal, which is now {}\n",
-        Escaped(path),
-        Escaped(backup)
+        EscapedText(path),
+        EscapedText(backup)
     )
 }
 

@@ -8,7 +8,7 @@ ghost use Rattle.osn_serve_commands.specs.SaveTarget as spec;
 
 use osn_files::{FileFault, load_journal};
 use osn_folder::{ChangeCause, Folder, OpenFailed};
-use osn_lines::{Bytes, Escaped, ReadAllFault, Sink, read_all};
+use osn_lines::{Bytes, EscapedText, ReadAllFault, Sink, read_all};
 use osn_register::Limits;
 use osn_report::{CommandFault, Status, report_at, report_line, report_no_memory};
 use std::alloc::{AllocError, Global};
@@ -140,7 +140,7 @@ fn target_text(alloc: Global, path: &str, why: &str) -> Result<String, AllocErro
 {
     format!(in alloc;
         "oldstyle: write fault\nhelp: {} {why}: name another file for --save\n",
-        Escaped(path)
+        EscapedText(path)
     )
 }
 

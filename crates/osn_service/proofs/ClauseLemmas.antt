@@ -30,7 +30,7 @@ use Rattle.osn_service.specs.SessionInside.{SessionState}
 use Rattle.osn_service.specs.TakingInside.{AnswersFirst, AnswersInPart, EndsTaking, HasTaken}
 use Rattle.osn_service.specs.TakingInside.{output_since}
 use Rattle.osn_service.proofs.PartLemmas.{InPart-more}
-use Rattle.osn_service.proofs.ServeLemmas.{Failing-from}
+use Rattle.osn_service.proofs.ServeLemmas.{FailsToWrite-from}
 use Rattle.osn_service.proofs.TakingLemmas.{IfSome-weaker, IfSome-both, AnswersInPart-from}
 use Rattle.osn_service.proofs.WaitLemmas.{Waits-written}
 
@@ -163,7 +163,12 @@ module _ {rules : ServeRules} {initial now : SessionState} {n : ℕ} (i : Input)
       let later : SessionState = record now { written = new; failed = failed } in
       Serves-in_part {now = later} i
       (AnswersInPart-from n unwritten h.lines_taken
-      (Failing-from {t = later} h.serving (record { some = some; object = refl; reason = reason }))
+      (FailsToWrite-from {t = later} h.serving (record {
+        some = some;
+        object = refl;
+        reason =
+            reason;
+      }))
       h.count firsts) holds_back
 
   -- the replies that wait were written

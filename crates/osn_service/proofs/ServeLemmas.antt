@@ -12,8 +12,9 @@ use Rattle.osn_service.specs.Refusals.{NoneRefused}
 use Rattle.osn_service.specs.Served.{line_text, after_lines}
 use Rattle.osn_service.specs.ServiceInside.{full, InPart, Adds, Settles}
 use Rattle.osn_service.specs.Session.{line_after, line_outcome}
-use Rattle.osn_service.specs.SessionInside.{SessionState, Answered, Settled, Unwritten, TakenBack}
-use Rattle.osn_service.specs.SessionInside.{IsShort, Serving, Failing, Unkept}
+use Rattle.osn_service.specs.SessionInside.{SessionState, AddsReply, AnswersNothing, Unwritten}
+use Rattle.osn_service.specs.SessionInside.{TakenBack}
+use Rattle.osn_service.specs.SessionInside.{IsShort, HasAnswered, FailsToWrite, Unkept}
 use Rattle.osn_service.proofs.PartLemmas.{PartOf-from}
 use Rattle.osn_service.proofs.WaitLemmas.{length-ends, Waits-nothing, Waits-add}
 use Rattle.osn_service.proofs.WaitLemmas.{Waits-settle, Waits-written, after_one}
@@ -64,9 +65,9 @@ IsShort-settled rules s lines a b w w' short settles =
     (λ k. subst (IsShort rules s lines) (sym k.text) (inl (omega arith))) settles
 
 -- nothing is answered yet
-pub Serving-nothing : (rules : ServeRules) (s : SessionState) → s.buffer.text.items ≡ [] →
-    s.buffer.ends.items ≡ [] → Serving rules s [] s
-Serving-nothing rules s text ends = record {
+pub HasAnswered-nothing : (rules : ServeRules) (s : SessionState) → s.buffer.text.items ≡ [] →
+    s.buffer.ends.items ≡ [] → HasAnswered rules s [] s
+HasAnswered-nothing rules s text ends = record {
   waits =
       Waits-nothing (line_text rules) (line_after rules) s.object s.written s.buffer text ends;
   short = subst (IsShort rules s.object []) (sym text) (inl (omega arith));
@@ -75,8 +76,9 @@ Serving-nothing rules s text ends = record {
 
 module _ {rules : ServeRules} {initial s t : SessionState} {lines : List (List ℕ)} where
   -- nothing was written, or all that waited
-  pub Serving-settled : Serving rules initial lines s → Settled s t → Serving rules initial lines t
-  Serving-settled h k = record {
+  pub HasAnswered-settled : HasAnswered rules initial lines s → AnswersNothing s t
+      → HasAnswered rules initial lines t
+  HasAnswered-settled h k = record {
     waits =
         Waits-settle (line_text rules) (line_after rules) initial.object s.object t.object lines
         initial.written s.written t.written s.buffer t.buffer h.waits k.settles k.object;
@@ -87,11 +89,11 @@ module _ {rules : ServeRules} {initial s t : SessionState} {lines : List (List �
   }
 
   -- a line was answered
-  pub Serving-answered : (line : List ℕ) → length s.buffer.text.items < full →
-      Serving rules initial lines s →
-      Answered (line_outcome rules s.object line) (line_after rules s.object line) s t →
-      Serving rules initial (lines ++ line ∷ []) t
-  Serving-answered line less h k = record {
+  pub HasAnswered-answered : (line : List ℕ) → length s.buffer.text.items < full →
+      HasAnswered rules initial lines s →
+      AddsReply (line_outcome rules s.object line) (line_after rules s.object line) s t →
+      HasAnswered rules initial (lines ++ line ∷ []) t
+  HasAnswered-answered line less h k = record {
     waits =
         Waits-add (line_text rules) (line_after rules) initial.object s.object t.object _ lines line
         initial.written s.written t.written s.buffer t.buffer h.waits k.adds refl k.object;
@@ -110,9 +112,10 @@ module _ {rules : ServeRules} {initial s t : SessionState} {lines : List (List �
   }
 
   -- a write failed
-  pub Failing-from : {unwritten : ℕ} → Serving rules initial lines s → Unwritten s t unwritten →
-      Failing rules initial lines t unwritten
-  Failing-from {unwritten} h k =
+  pub FailsToWrite-from : {unwritten : ℕ} → HasAnswered rules initial lines s
+      → Unwritten s t unwritten →
+      FailsToWrite rules initial lines t unwritten
+  FailsToWrite-from {unwritten} h k =
       let text = line_text rules in
       let after = line_after rules in
       let part = PartOf-from text after initial.object s.object lines initial.written s.written
@@ -127,7 +130,7 @@ module _ {rules : ServeRules} {initial s t : SessionState} {lines : List (List �
       }
 
   -- the change of a line was not kept
-  pub Unkept-from : {holds_back : Bool} (line : List ℕ) → Serving rules initial lines s →
+  pub Unkept-from : {holds_back : Bool} (line : List ℕ) → HasAnswered rules initial lines s →
       TakenBack (line_after rules s.object line) s t holds_back →
       Unkept rules initial lines line t holds_back
   Unkept-from line h k = record {
@@ -143,9 +146,9 @@ module _ {rules : ServeRules} {initial s t : SessionState} {lines : List (List �
   }
 
 -- no more replies wait than lines were answered
-pub Serving-few : (rules : ServeRules) (initial s : SessionState) (lines : List (List ℕ)) →
-    Serving rules initial lines s → length s.buffer.ends.items ≤ length lines
-Serving-few rules initial s lines h =
+pub HasAnswered-few : (rules : ServeRules) (initial s : SessionState) (lines : List (List ℕ)) →
+    HasAnswered rules initial lines s → length s.buffer.ends.items ≤ length lines
+HasAnswered-few rules initial s lines h =
     let w = h.waits in
     omega (
       arith,

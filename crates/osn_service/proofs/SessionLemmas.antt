@@ -12,12 +12,14 @@ use Rattle.osn_service.specs.declared.stop.UnwrittenReplies.{UnwrittenReplies}
 use Rattle.osn_service.specs.Served.{after_lines}
 use Rattle.osn_service.specs.ServiceInside.{full}
 use Rattle.osn_service.specs.Session.{line_outcome, line_after}
-use Rattle.osn_service.specs.SessionInside.{SessionState, session_state_of, Answered, Settled}
-use Rattle.osn_service.specs.SessionInside.{Unwritten, TakenBack, Answers, Serving, IsSame}
+use Rattle.osn_service.specs.SessionInside.{SessionState, session_state_of, AddsReply}
+use Rattle.osn_service.specs.SessionInside.{AnswersNothing}
+use Rattle.osn_service.specs.SessionInside.{Unwritten, TakenBack, Answers, HasAnswered, IsSame}
 use Rattle.osn_service.specs.SessionInside.{HasServed, HasStopped}
 use Rattle.osn_service.specs.Store.{KeepsSince}
-use Rattle.osn_service.proofs.ServeLemmas.{Serving-nothing, Serving-settled, Serving-answered}
-use Rattle.osn_service.proofs.ServeLemmas.{Failing-from, Unkept-from, NoneRefused-more}
+use Rattle.osn_service.proofs.ServeLemmas.{HasAnswered-nothing, HasAnswered-settled}
+use Rattle.osn_service.proofs.ServeLemmas.{HasAnswered-answered}
+use Rattle.osn_service.proofs.ServeLemmas.{FailsToWrite-from, Unkept-from, NoneRefused-more}
 
 -- two sessions that are the same as a third are the same
 IsSame-then : {W S : Type 0} {initial s t : Session W S} → IsSame initial s → IsSame s t →
@@ -48,7 +50,7 @@ module _ {W S F : Type 0} (contents : W → Option (List ℕ)) (has_failed holds
   Served-nothing s text ends = record {
     same = record { rules = refl; store = refl; sink = refl };
     lent = λ _ k. k;
-    serving = Serving-nothing s.rules (now_of s) text ends;
+    serving = HasAnswered-nothing s.rules (now_of s) text ends;
     spared = λ _. tt;
     keeps = λ _ k. k;
   }
@@ -56,12 +58,13 @@ module _ {W S F : Type 0} (contents : W → Option (List ℕ)) (has_failed holds
   module _ (initial s t : Session W S) (before : List (List ℕ)) (h : Served initial before s)
       (same : IsSame s t) where
     -- nothing was answered, and nothing was written or all that waited
-    pub Served-settled : KeepsSince lends s.store.now t.store.now → Settled (now_of s) (now_of t) →
+    pub Served-settled : KeepsSince lends s.store.now t.store.now
+        → AnswersNothing (now_of s) (now_of t) →
         KeepsSince has_kept s.store.now t.store.now → Served initial before t
     Served-settled lent settled keeps = record {
       same = IsSame-then h.same same;
       lent = λ b k. lent b (h.lent b k);
-      serving = Serving-settled h.serving settled;
+      serving = HasAnswered-settled h.serving settled;
       spared = h.spared;
       keeps = λ b k. keeps b (h.keeps b k);
     }
@@ -75,16 +78,16 @@ module _ {W S F : Type 0} (contents : W → Option (List ℕ)) (has_failed holds
     Stopped-unwritten at failed lent unwritten keeps = record {
       same = IsSame-then h.same same;
       lent = λ b k. lent b (h.lent b k);
-      failing = Failing-from h.serving unwritten;
+      failing = FailsToWrite-from h.serving unwritten;
       keeps = λ b k. keeps b (h.keeps b k);
     }
 
     -- a line, once nothing was written or all that waited
-    module _ (mid : SessionState) (line : List ℕ) (room : Settled (now_of s) mid)
+    module _ (mid : SessionState) (line : List ℕ) (room : AnswersNothing (now_of s) mid)
         (less : length mid.buffer.text.items < full) where
       -- the lines before were answered, also once what waited was written
-      ready : Serving initial.rules (now_of initial) before mid
-      ready = Serving-settled h.serving room
+      ready : HasAnswered initial.rules (now_of initial) before mid
+      ready = HasAnswered-settled h.serving room
 
       -- whether the line is refused, by the rules from the beginning
       same_refusal : is_refused (line_outcome s.rules mid.object line)
@@ -104,10 +107,10 @@ module _ {W S F : Type 0} (contents : W → Option (List ℕ)) (has_failed holds
 
       -- the reply to the line waits
       answered : {refused : Bool} → Replies refused →
-          Serving initial.rules (now_of initial) (before ++ line ∷ []) (now_of t)
+          HasAnswered initial.rules (now_of initial) (before ++ line ∷ []) (now_of t)
       answered {refused} k =
-          Serving-answered line less ready
-          (subst (λ (r : ServeRules). Answered (line_outcome r mid.object line)
+          HasAnswered-answered line less ready
+          (subst (λ (r : ServeRules). AddsReply (line_outcome r mid.object line)
           (line_after r mid.object line) mid (now_of t)) h.same.rules k.2)
 
       -- the line was answered, and is not the last
@@ -153,14 +156,14 @@ module _ {W S F : Type 0} (contents : W → Option (List ℕ)) (has_failed holds
       Stopped-unanswered NoMemory k = record {
         same = IsSame-then h.same same;
         lent = λ b l. k.0 b (h.lent b l);
-        serving = Serving-settled ready k.1.0;
+        serving = HasAnswered-settled ready k.1.0;
         spared = h.spared;
         keeps = λ b l. k.1.1 b (h.keeps b l);
       }
       Stopped-unanswered (WriteFailed failed) k = record {
         same = IsSame-then h.same same;
         lent = λ b l. k.0 b (h.lent b l);
-        failing = Failing-from ready k.1.0;
+        failing = FailsToWrite-from ready k.1.0;
         keeps = λ b l. k.1.1 b (h.keeps b l);
       }
       Stopped-unanswered (NotKept why) k = record {

@@ -29,13 +29,13 @@ use Rattle.osn_service.specs.Served.{line_text, outputs, after_lines, WritesFirs
 use Rattle.osn_service.specs.Served.{IsAfterLines}
 use Rattle.osn_service.specs.ServiceInside.{InPart}
 use Rattle.osn_service.specs.Session.{line_after}
-use Rattle.osn_service.specs.SessionInside.{SessionState, session_state_of, Failing, IsSame}
+use Rattle.osn_service.specs.SessionInside.{SessionState, session_state_of, FailsToWrite, IsSame}
 use Rattle.osn_service.specs.SessionInside.{HasLost, HasRefused}
 use Rattle.osn_service.specs.Sources.{KeepsSourceless}
 use Rattle.osn_service.specs.Store.{KeepsSince}
 use Rattle.osn_service.specs.TakingInside.{HasTaken, HasKept, IsWithin, AnswersFirst, AnswersInPart}
 use Rattle.osn_service.specs.TakingInside.{SparedFirst, EndsTaking, early_end}
-use Rattle.osn_service.proofs.ServeLemmas.{Serving-few}
+use Rattle.osn_service.proofs.ServeLemmas.{HasAnswered-few}
 use Rattle.osn_service.proofs.SessionLemmas.{Served, Stopped, Served-nothing}
 use Rattle.osn_service.proofs.SourceLemmas.{Sourceless-after, Sourceless-near}
 
@@ -76,7 +76,7 @@ IsNext-from all taken line n first next = record {
 
 -- a write failed, and of the n lines that were taken this many replies are not written whole
 pub AnswersInPart-from : {rules : ServeRules} {initial now : SessionState} {input : Option (List ℕ)}
-    (n unwritten : ℕ) (taken : List (List ℕ)) → Failing rules initial taken now unwritten →
+    (n unwritten : ℕ) (taken : List (List ℕ)) → FailsToWrite rules initial taken now unwritten →
     n ≡ length taken → IfSome input (λ bytes. take n (lines bytes) ≡ taken) →
     AnswersInPart rules initial now input (n - unwritten)
 AnswersInPart-from {rules} {initial} {now} {input} n unwritten taken h count first =
@@ -97,7 +97,7 @@ pub HasTaken-few : {F : Type 0} (rules : ServeRules) (initial now : SessionState
     HasTaken rules initial now holds_back i taken →
     IfOk taken (λ taken. length now.buffer.ends.items ≤ taken.lines)
 HasTaken-few rules initial now holds_back i (Ok taken) h =
-    omega (arith, h.0.count, Serving-few rules initial now h.0.lines_taken h.0.serving)
+    omega (arith, h.0.count, HasAnswered-few rules initial now h.0.lines_taken h.0.serving)
 HasTaken-few rules initial now holds_back i (Err end) h = tt
 
 module _ {W S F : Type 0} (contents : W → Option (List ℕ)) (has_failed holds_back : W → Bool)

@@ -41,13 +41,13 @@ session_state contents has_failed state store sink buffer = record {
 -- ---- one line
 
 -- a reply was added, and the object is this one then
-pub record Answered (outcome : Outcome) (after : ObjectState) (s t : SessionState) : Type 0 where
+pub record AddsReply (outcome : Outcome) (after : ObjectState) (s t : SessionState) : Type 0 where
   pub adds : Adds s.object t.object (reply_line outcome) s.written t.written s.buffer t.buffer
   pub object : t.object ≡ after
   pub sound : t.failed ≡ s.failed
 
 -- nothing was answered, and nothing was written or all that waited
-pub record Settled (s t : SessionState) : Type 0 where
+pub record AnswersNothing (s t : SessionState) : Type 0 where
   pub settles : Settles s.written t.written s.buffer t.buffer
   pub object : t.object ≡ s.object
   pub sound : t.failed ≡ s.failed
@@ -78,11 +78,11 @@ abbrev pub Answers : {S F : Type 0} → (S → S → Type 0) → (S → S → Ty
     → (S → ObjectState → S → F → Type 0) → Outcome → ObjectState → SessionState → SessionState →
     Bool → S → S → Result Bool (Stop F) → Type 0
 Answers lends has_kept has_lost outcome after s t holds_back old new (Ok refused) =
-    KeepsSince lends old new × (refused ≡ is_refused outcome) × Answered outcome after s t
+    KeepsSince lends old new × (refused ≡ is_refused outcome) × AddsReply outcome after s t
     × KeepsSince has_kept old new
 Answers lends has_kept has_lost outcome after s t holds_back old new (Err stop) =
     KeepsSince lends old new × MatchStop stop
-    (Settled s t × KeepsSince has_kept old new)
+    (AnswersNothing s t × KeepsSince has_kept old new)
     (λ unwritten. Unwritten s t unwritten × KeepsSince has_kept old new)
     (λ why. (is_refused outcome ≡ false) × TakenBack after s t holds_back
     × KeepsNoMore has_kept has_lost old s.object new why)
@@ -97,7 +97,7 @@ IsShort rules s lines text =
     (length text < full) ⊎ HasReply rules s lines (length text - 65535)
 
 -- lines were answered, and the replies to the last of them wait
-pub record Serving (rules : ServeRules) (initial : SessionState) (lines : List (List ℕ))
+pub record HasAnswered (rules : ServeRules) (initial : SessionState) (lines : List (List ℕ))
     (now : SessionState) : Type 0 where
   pub waits : Waits (line_text rules) (line_after rules) initial.object now.object lines
       initial.written now.written now.buffer
@@ -105,7 +105,7 @@ pub record Serving (rules : ServeRules) (initial : SessionState) (lines : List (
   pub sound : now.failed ≡ initial.failed
 
 -- lines were answered, and a write failed with this many of their replies not written whole
-pub record Failing (rules : ServeRules) (initial : SessionState) (lines : List (List ℕ))
+pub record FailsToWrite (rules : ServeRules) (initial : SessionState) (lines : List (List ℕ))
     (now : SessionState) (unwritten : ℕ) : Type 0 where
   pub whole : ℕ
   pub count : whole + unwritten ≡ length lines
@@ -123,8 +123,8 @@ pub record Unkept (rules : ServeRules) (initial : SessionState) (lines : List (L
   pub reached : now.object ≡ after_lines rules initial.object (lines ++ line ∷ [])
 
 -- if a refusal ends the service, no line of these was refused
-abbrev pub Spared : ServeRules → ObjectState → List (List ℕ) → Type 0
-Spared rules s lines = rules.stop_at_refusal ≡ true → NoneRefused rules s lines
+abbrev pub RefusesNoLine : ServeRules → ObjectState → List (List ℕ) → Type 0
+RefusesNoLine rules s lines = rules.stop_at_refusal ≡ true → NoneRefused rules s lines
 
 -- a line was refused, after lines that were not, and is the last
 pub record Refused (rules : ServeRules) (s : ObjectState) (lines : List (List ℕ)) (line : List ℕ)
@@ -161,9 +161,10 @@ module _ {W S F : Type 0} (contents : W → Option (List ℕ)) (has_failed holds
     where
       pub same : IsSame initial now
       pub lent : KeepsSince lends initial.store.now now.store.now
-      pub serving : Serving initial.rules (session_state_of contents has_failed state initial) lines
+      pub serving : HasAnswered initial.rules
+          (session_state_of contents has_failed state initial) lines
           (session_state_of contents has_failed state now)
-      pub spared : Spared initial.rules (state initial.store.now) lines
+      pub spared : RefusesNoLine initial.rules (state initial.store.now) lines
       pub keeps : KeepsSince has_kept initial.store.now now.store.now
 
   -- a session took these lines, and a write failed
@@ -171,7 +172,8 @@ module _ {W S F : Type 0} (contents : W → Option (List ℕ)) (has_failed holds
       (unwritten : ℕ) : Type 0 where
     pub same : IsSame initial now
     pub lent : KeepsSince lends initial.store.now now.store.now
-    pub failing : Failing initial.rules (session_state_of contents has_failed state initial) lines
+    pub failing : FailsToWrite initial.rules
+        (session_state_of contents has_failed state initial) lines
         (session_state_of contents has_failed state now) unwritten
     pub keeps : KeepsSince has_kept initial.store.now now.store.now
 
@@ -185,7 +187,7 @@ module _ {W S F : Type 0} (contents : W → Option (List ℕ)) (has_failed holds
     pub unkept : Unkept initial.rules (session_state_of contents has_failed state initial) lines
         line
         (session_state_of contents has_failed state now) (holds_back now.sink.now)
-    pub spared : Spared initial.rules (state initial.store.now) lines
+    pub spared : RefusesNoLine initial.rules (state initial.store.now) lines
     pub fails : KeepsNoMore has_kept has_lost initial.store.now
         (after_lines initial.rules (state initial.store.now) lines) now.store.now why
 
@@ -196,7 +198,7 @@ module _ {W S F : Type 0} (contents : W → Option (List ℕ)) (has_failed holds
     pub is : at ≡ Some line
     pub same : IsSame initial now
     pub lent : KeepsSince lends initial.store.now now.store.now
-    pub serving : Serving initial.rules (session_state_of contents has_failed state initial)
+    pub serving : HasAnswered initial.rules (session_state_of contents has_failed state initial)
         (lines ++ line ∷ []) (session_state_of contents has_failed state now)
     pub refused : Refused initial.rules (state initial.store.now) lines line
     pub keeps : KeepsSince has_kept initial.store.now now.store.now

@@ -27,7 +27,7 @@ use Rattle.osn_service.specs.Serves.{ServesUnkept}
 use Rattle.osn_service.specs.ServiceInside.{InPart}
 use Rattle.osn_service.specs.Served.{line_text}
 use Rattle.osn_service.specs.Session.{line_after}
-use Rattle.osn_service.specs.SessionInside.{SessionState, Serving, KeepsNoMore}
+use Rattle.osn_service.specs.SessionInside.{SessionState, HasAnswered, KeepsNoMore}
 use Rattle.osn_service.specs.Store.{KeepsSince}
 
 -- the result of taking lines that ended early, after n lines
@@ -55,7 +55,7 @@ IsWithin n (take.Stopped stop.Refused) = ⊤
 pub record AnswersFirst (rules : ServeRules) (initial now : SessionState) (input : Option (List ℕ))
     (n : ℕ) : Type 0 where
   pub lines_taken : List (List ℕ)
-  pub serving : Serving rules initial lines_taken now
+  pub serving : HasAnswered rules initial lines_taken now
   pub count : n ≡ length lines_taken
   pub first : IfSome input (λ bytes. take (length lines_taken) (lines bytes) ≡ lines_taken)
 

@@ -1,6 +1,6 @@
 //! The service: every request line of a source is answered, in order.
 ghost use Rattle.std.specs.Prelude.{◌≡◌, ◌≤◌, ◌<◌, ◌^◌, [], length, IfOk};
-ghost use Rattle.osn_core.specs.Sequential.{ObjectState, opened};
+ghost use Rattle.osn_core.specs.Sequential.{ObjectState, empty_object};
 ghost use Rattle.osn_lines.specs.Streams.{Input, input_of, output_of};
 ghost use Rattle.osn_service.specs.Law.{MayEachInputBeCut};
 ghost use Rattle.osn_service.specs.Serves.{KeepsStore, Serves, ServesStore};
@@ -274,7 +274,7 @@ pub fn serve<R: Source, W: Sink>(
     sink: &mut W,
 ) -> Result<u64, EndedEarly<ServeFault>>
     // The contract is about an object that is dropped at the end.
-    ensures { (object : ObjectState) × Serves (editing readers) (opened limits) object
+    ensures { (object : ObjectState) × Serves (editing readers) (empty_object limits) object
         (input_of R.remaining R.has_failed source.old source.new)
         (output_of W.contents W.has_failed W.holds_back sink.old sink.new) result }
 {

@@ -106,7 +106,7 @@ fn reply_to<S: Store>(alloc: Global, store: &S, query: LineQuery<'_>) -> Result<
 {
     match query {
         LineQuery::Plain(query) => store.ask(query),
-        LineQuery::Written { .. } => store.ask(query.to_query(alloc)?.borrowed()),
+        LineQuery::Written { .. } => store.ask(query.to_query(alloc)?.borrow()),
     }
 }
 

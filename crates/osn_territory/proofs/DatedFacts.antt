@@ -5,8 +5,8 @@ use Rattle.std.proofs.lemmas.Int.{ints}
 use Rattle.std.specs.Fmt.{decimal}
 use Rattle.osn_days.specs.declared.date.Date.{Date}
 use Rattle.osn_days.specs.Month.{month_name}
-use Rattle.osn_territory.specs.declared.dated.DatedDay.{DatedDay}
-use Rattle.osn_territory.specs.Dated.{dated_text, years_text}
+use Rattle.osn_territory.specs.declared.dating.DatedDay.{DatedDay}
+use Rattle.osn_territory.specs.Dating.{dated_text, years_text}
 use Rattle.osn_territory.specs.Dual.{year_text, date_text}
 
 abbrev dated : ℕ → ℤ → ℤ → Date → DatedDay

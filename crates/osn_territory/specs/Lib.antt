@@ -3,7 +3,7 @@ pub mod StyleWords
 pub mod Label
 pub mod Dual
 pub mod Territory
-pub mod Dated
+pub mod Dating
 pub mod LabelOrder
 pub mod MonthDay
 pub mod Runs

@@ -20,8 +20,8 @@ pub record TerritoryModel : Type 0 where
   pub exceptions : List (ℕ × ℕ)
 
 -- a territory with one regime on every day
-abbrev pub opened : Regime → TerritoryModel
-opened regime = record { starts = (1, regime) ∷ []; exceptions = [] }
+abbrev pub of_one_regime : Regime → TerritoryModel
+of_one_regime regime = record { starts = (1, regime) ∷ []; exceptions = [] }
 
 -- the regime without any start; each territory has a start
 abbrev pub no_start : Regime

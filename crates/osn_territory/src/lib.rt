@@ -6,7 +6,7 @@
 
 mod candidate_table;
 mod candidates;
-mod dated;
+mod dating;
 mod dual;
 mod easters;
 mod fault;
@@ -24,7 +24,7 @@ mod style;
 mod style_year;
 mod territory;
 
-pub use dated::{DatedDay, DatedYears, dated_day};
+pub use dating::{DatedDay, DatedYears, dated_day};
 pub use dual::dual_text;
 pub use fault::LandFault;
 pub use label::{Label, day_of_label, label_of};

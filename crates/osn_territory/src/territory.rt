@@ -57,7 +57,7 @@ impl Territory {
     /// `StyleNeedsJulian` for a regime that no territory takes, then `NoMemory`.
     pub fn new(alloc: Global, regime: Regime) -> Result<Territory, LandFault>
         ensures lawful { OnOk result (changes.regime_fault regime ≡ None) }
-        ensures ok { IfOk result (λ t. t ≡ plain.opened regime) }
+        ensures ok { IfOk result (λ t. t ≡ plain.of_one_regime regime) }
         ensures refused { IfErr result (IsFaultOrNoMemory (changes.regime_fault regime)) }
     {
         if regime.lacks_julian() {
@@ -73,7 +73,7 @@ impl Territory {
     /// `AllocError` if there is no memory for the first period.
     pub fn open(alloc: Global, regime: Regime) -> Result<Territory, AllocError>
         requires { changes.regime_fault regime ≡ None }
-        ensures { IfOk result (λ t. t ≡ plain.opened regime) }
+        ensures { IfOk result (λ t. t ≡ plain.of_one_regime regime) }
     {
         let mut periods = Vec::new(alloc);
         periods.push(Period {

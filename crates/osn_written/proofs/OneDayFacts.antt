@@ -10,7 +10,7 @@ use Rattle.std.specs.Ordering.{int_eq}
 use Rattle.osn_days.specs.Line.{line}
 use Rattle.osn_days.specs.Rules.{Rules}
 use Rattle.osn_days.proofs.RangeFacts.{filter_same, filter_both}
-use Rattle.osn_territory.specs.Dated.{dated_on}
+use Rattle.osn_territory.specs.Dating.{dated_on}
 use Rattle.osn_territory.specs.Style.{is_before_25_march}
 use Rattle.osn_territory.specs.Territory.{TerritoryModel, reading}
 use Rattle.osn_written.specs.declared.written_date.WrittenDate.{WrittenDate}

@@ -16,7 +16,7 @@ use Rattle.osn_days.specs.Line.{line}
 use Rattle.osn_days.specs.Rules.{Rules}
 use Rattle.osn_days.proofs.RangeFacts.{filter_same, filter_both}
 use Rattle.osn_written.specs.declared.any_date.PartialDate.{PartialDate}
-use Rattle.osn_territory.specs.Dated.{dated_on}
+use Rattle.osn_territory.specs.Dating.{dated_on}
 use Rattle.osn_territory.specs.Style.{is_before_25_march}
 use Rattle.osn_territory.specs.Territory.{TerritoryModel}
 use Rattle.osn_written.specs.Runs.{all_labelled, all_double, is_labelled, is_meant_double}

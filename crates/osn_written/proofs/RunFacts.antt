@@ -17,7 +17,7 @@ use Rattle.osn_written.specs.declared.any_date.PartialDate.{PartialDate}
 use Rattle.osn_written.specs.declared.any_date.PartialDate.TheVariants.{Day, Month, Year}
 use Rattle.osn_written.specs.declared.any_date.Year as written
 use Rattle.osn_territory.specs.declared.runs.Run.{Run}
-use Rattle.osn_territory.specs.Dated.{dated_on}
+use Rattle.osn_territory.specs.Dating.{dated_on}
 use Rattle.osn_territory.specs.Runs.{days_in, days_of_run, days_of_year, days_of_month}
 use Rattle.osn_territory.specs.Runs.{AreRunsAfter}
 use Rattle.osn_territory.specs.Territory.{TerritoryModel, reading}

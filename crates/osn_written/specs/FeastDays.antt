@@ -4,7 +4,7 @@ use Rattle.std.specs.Prelude.{ℕ, ◌+◌, ◌-◌, Bool, ◌&&◌, pos, int_le
 use Rattle.std.specs.Prelude.{map, filter, filter_map}
 use Rattle.osn_days.specs.Rules.{Rules}
 use Rattle.osn_territory.specs.declared.runs.Run.{Run}
-use Rattle.osn_territory.specs.Dated.{dated_on}
+use Rattle.osn_territory.specs.Dating.{dated_on}
 use Rattle.osn_territory.specs.Easters.{easters}
 use Rattle.osn_territory.specs.Territory.{TerritoryModel}
 use Rattle.osn_written.specs.declared.any_date.Year.{Year}

@@ -21,7 +21,7 @@ use Rattle.osn_territory.specs.declared.regime.Regime.{Regime}
 use Rattle.osn_territory.specs.declared.runs.Run.{Run}
 use Rattle.osn_territory.specs.declared.style.Style.TheVariants as Style
 use Rattle.osn_territory.specs.JulianCalendar.{in_julian_calendar}
-use Rattle.osn_territory.specs.Territory.{TerritoryModel, opened}
+use Rattle.osn_territory.specs.Territory.{TerritoryModel, of_one_regime}
 use Rattle.osn_written.specs.declared.absence.Absence.{Absence}
 use Rattle.osn_written.specs.declared.finding.NoDay.{NoDay}
 use Rattle.osn_written.specs.declared.finding.NoDay.TheVariants.{Absent, LastAbsent, OutOfOrder}
@@ -126,12 +126,12 @@ new_style = record { calendar = Calendar.Gregorian; style = Style.January; rule 
 -- Julian one, with its own beginnings of the year
 abbrev pub by_reckoning : TerritoryModel → Reckoning → TerritoryModel
 by_reckoning t OldStyle = in_julian_calendar t
-by_reckoning t NewStyle = opened new_style
+by_reckoning t NewStyle = of_one_regime new_style
 
 -- the territory by whose reckoning a date is read
-abbrev pub reckoned : TerritoryModel → Option Reckoning → TerritoryModel
-reckoned t None = t
-reckoned t (Some reckoning) = by_reckoning t reckoning
+abbrev pub with_reckoning : TerritoryModel → Option Reckoning → TerritoryModel
+with_reckoning t None = t
+with_reckoning t (Some reckoning) = by_reckoning t reckoning
 
 -- two runs are the same
 abbrev pub is_same_run : Run → Run → Bool

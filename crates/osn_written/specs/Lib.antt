@@ -18,4 +18,4 @@ pub mod SetsMeant
 pub mod Double
 pub mod Words
 pub mod Nearest
-pub mod Missing
+pub mod MissingDate

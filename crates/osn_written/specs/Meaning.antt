@@ -7,9 +7,9 @@ use Rattle.osn_days.specs.declared.weekday.Weekday.{Weekday}
 use Rattle.osn_days.specs.Line.{weekday}
 use Rattle.osn_days.specs.Rules.{Rules}
 use Rattle.osn_days.specs.Weekday.{weekday_name, weekday_numbered}
-use Rattle.osn_territory.specs.declared.dated.DatedDay.{DatedDay}
+use Rattle.osn_territory.specs.declared.dating.DatedDay.{DatedDay}
 use Rattle.osn_territory.specs.declared.label.Label.{Label}
-use Rattle.osn_territory.specs.Dated.{dated_on}
+use Rattle.osn_territory.specs.Dating.{dated_on}
 use Rattle.osn_territory.specs.Style.{is_before_25_march}
 use Rattle.osn_territory.specs.Territory.{TerritoryModel, reading}
 use Rattle.osn_written.specs.declared.written_date.WrittenDate.{WrittenDate}

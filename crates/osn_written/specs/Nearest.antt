@@ -2,8 +2,8 @@
 use Rattle.std.specs.Prelude.{ℕ, pos, ◌-ℤ◌, ◌+◌, List, [], ◌∷◌, ◌++◌, map, ℤ}
 use Rattle.std.specs.List.{range_with_len}
 use Rattle.osn_days.specs.Rules.{Rules}
-use Rattle.osn_territory.specs.declared.dated.DatedDay.{DatedDay}
-use Rattle.osn_territory.specs.Dated.{dated_on}
+use Rattle.osn_territory.specs.declared.dating.DatedDay.{DatedDay}
+use Rattle.osn_territory.specs.Dating.{dated_on}
 use Rattle.osn_territory.specs.Territory.{TerritoryModel, reading}
 use Rattle.osn_written.specs.declared.written_date.WrittenDate.{WrittenDate}
 

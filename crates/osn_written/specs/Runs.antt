@@ -8,10 +8,10 @@ use Rattle.osn_days.specs.Line.{line}
 use Rattle.osn_written.specs.declared.any_date.PartialDate.{PartialDate}
 use Rattle.osn_written.specs.declared.any_date.PartialDate.TheVariants.{Day, Month, Year}
 use Rattle.osn_written.specs.declared.any_date.Year as written
-use Rattle.osn_territory.specs.declared.dated.DatedDay.{DatedDay}
+use Rattle.osn_territory.specs.declared.dating.DatedDay.{DatedDay}
 use Rattle.osn_territory.specs.declared.label.Label.{Label}
 use Rattle.osn_territory.specs.declared.runs.Run.{Run}
-use Rattle.osn_territory.specs.Dated.{dated_on}
+use Rattle.osn_territory.specs.Dating.{dated_on}
 use Rattle.osn_territory.specs.Style.{is_before_25_march}
 use Rattle.osn_territory.specs.Territory.{TerritoryModel}
 

@@ -36,12 +36,12 @@ members_meant p t [] = Ok []
 members_meant p t (w ∷ ws) = before_others w (extent_meant p t w.extent) (members_meant p t ws)
 
 -- the days of a set, or the first date that means no day
-abbrev pub united : Rules → Result (List Run) AbsentMember → Result (List Run) AbsentMember
-united p (Ok runs) = Ok (union p runs)
-united p (Err absent) = Err absent
+abbrev pub union_of_runs : Rules → Result (List Run) AbsentMember → Result (List Run) AbsentMember
+union_of_runs p (Ok runs) = Ok (union p runs)
+union_of_runs p (Err absent) = Err absent
 
 abbrev pub set_meant : Rules → TerritoryModel → List AnyDate → Result (List Run) AbsentMember
-set_meant p t members = united p (members_meant p t members)
+set_meant p t members = union_of_runs p (members_meant p t members)
 
 -- the result of the code for a set, with its runs as a list
 abbrev pub set_list_of : Result (Vec Run Global) AbsentMember → Result (List Run) AbsentMember

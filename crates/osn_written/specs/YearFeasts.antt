@@ -5,7 +5,7 @@ use Rattle.std.specs.Prelude.{Option, Some, None}
 use Rattle.std.specs.List.{flat_map}
 use Rattle.std.specs.Ordering.{int_eq}
 use Rattle.osn_days.specs.Rules.{Rules}
-use Rattle.osn_territory.specs.Dated.{dated_on}
+use Rattle.osn_territory.specs.Dating.{dated_on}
 use Rattle.osn_territory.specs.Easters.{easters}
 use Rattle.osn_territory.specs.Territory.{TerritoryModel}
 use Rattle.osn_written.specs.declared.feast.Feast.{Feast}

@@ -1,6 +1,6 @@
 //! A date in words.
 ghost use Rattle.std.specs.Prelude.{◌≡◌, Some, pos};
-ghost use Rattle.osn_territory.specs.Dated.{years_text};
+ghost use Rattle.osn_territory.specs.Dating.{years_text};
 ghost use Rattle.osn_territory.specs.Dual.{year_text};
 ghost use Rattle.osn_written.specs.DateInWords as spec;
 
@@ -26,7 +26,7 @@ fn zeros_before(year: u16) -> &'static str
 
 /// Returns the years of a dated day that is in the year. Which day it is makes no difference to
 /// them.
-#[tactic(auto, unfolding(osn_territory::specs::Dated::years_text))]
+#[tactic(auto, unfolding(osn_territory::specs::Dating::years_text))]
 fn years(year: Year) -> DatedYears
     ensures { years_text result.0 ≡ year_text (pos year.first) (pos (spec.last_year year)) }
 {

@@ -1,7 +1,7 @@
 //! The days of a feast in a year, as a territory counted the year.
 ghost use Rattle.std.specs.Prelude.{◌≡◌, ◌++◌, IfOk, OnOk, filter, filter_map, map};
 ghost use Rattle.osn_days.specs.Rules.{newest_rules};
-ghost use Rattle.osn_territory.specs.Dated.{dated_on};
+ghost use Rattle.osn_territory.specs.Dating.{dated_on};
 ghost use Rattle.osn_written.specs.Feast.{feast_day};
 ghost use Rattle.osn_written.specs.FeastDays as spec;
 ghost use Rattle.osn_written.specs.Runs.{is_in_year, run_of_day};

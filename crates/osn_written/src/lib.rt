@@ -13,7 +13,7 @@ mod finding;
 mod kind;
 mod listing;
 mod meaning;
-mod missing;
+mod missing_date;
 mod nearest;
 mod one_day;
 mod portion;
@@ -35,7 +35,7 @@ pub use finding::{NoDay, by_reckoning, ends_of, find_runs, first_day_of, is_by_o
 pub use kind::{Kind, kind_of};
 pub use listing::Listing;
 pub use meaning::{dated_by, days_meant, has_weekday, is_not_counted_double, is_on};
-pub use missing::{Missing, changes_over, days_like, missing_day, year_without};
+pub use missing_date::{MissingDate, changes_over, days_like, missing_day, year_without};
 pub use nearest::nearest_days;
 pub use one_day::plain_day;
 pub use portion::Portion;

@@ -1,7 +1,7 @@
 //! The days that a written date means in a territory.
 ghost use Rattle.std.specs.Prelude.{◌≡◌, IfOk, map};
 ghost use Rattle.osn_days.specs.Rules.{newest_rules};
-ghost use Rattle.osn_territory.specs.Dated.{dated_on};
+ghost use Rattle.osn_territory.specs.Dating.{dated_on};
 ghost use Rattle.osn_territory.specs.Style.{is_before_25_march};
 ghost use Rattle.osn_written.specs.OneDay.{AreSameDays};
 ghost use Rattle.osn_written.specs.Meaning as spec;

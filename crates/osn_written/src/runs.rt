@@ -1,7 +1,7 @@
 //! The runs of days that a written day, month or year means in a territory.
 ghost use Rattle.std.specs.Prelude.{◌≡◌, ◌++◌, ◌+◌, map, filter, IfOk, OnOk, true};
 ghost use Rattle.osn_days.specs.Rules.{newest_rules};
-ghost use Rattle.osn_territory.specs.Dated.{dated_on};
+ghost use Rattle.osn_territory.specs.Dating.{dated_on};
 ghost use Rattle.osn_territory.specs.Runs.{days_in, days_of_run};
 ghost use Rattle.osn_territory.specs.Style.{is_before_25_march};
 ghost use Rattle.osn_territory.specs.Territory.{reading};
@@ -209,7 +209,7 @@ fn joined_after(alloc: Global, first: Run, others: &[Run]) -> Result<Vec<Run>, A
 }
 
 /// Runs in order, those as one that touch.
-pub(crate) fn joined(alloc: Global, runs: &[Run]) -> Result<Vec<Run>, AllocError>
+pub(crate) fn join_runs(alloc: Global, runs: &[Run]) -> Result<Vec<Run>, AllocError>
     requires { spec.HaveDays runs.now }
     ensures { IfOk result (λ joined. joined.items ≡ spec.runs_of (days_in runs.now)) }
 {
@@ -245,5 +245,5 @@ pub fn runs_meant(
     ensures apart { IfOk result (λ runs. spec.LieApart runs.items) }
 {
     let runs = touching_runs(alloc, territory, date)?;
-    joined(alloc, runs.as_slice())
+    join_runs(alloc, runs.as_slice())
 }

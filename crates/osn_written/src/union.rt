@@ -4,7 +4,7 @@ ghost use Rattle.std.specs.List.Sorted.{IsNonDecreasingBy, IsPermutation};
 ghost use Rattle.osn_days.specs.Rules.{newest_rules};
 ghost use Rattle.osn_written.specs.Union as spec;
 
-use crate::runs::joined;
+use crate::runs::join_runs;
 use osn_days::Day;
 use osn_territory::Run;
 use std::alloc::{AllocError, Global};
@@ -67,5 +67,5 @@ pub(crate) fn union(alloc: Global, mut runs: Vec<Run>) -> Result<Vec<Run>, Alloc
 {
     sort_by_first(&mut runs)?;
     let rest = without_overlap(alloc, runs.as_slice())?;
-    joined(alloc, rest.as_slice())
+    join_runs(alloc, rest.as_slice())
 }

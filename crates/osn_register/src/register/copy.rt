@@ -4,7 +4,7 @@ ghost use Rattle.osn_days.specs.Rules.{newest_rules};
 ghost use Rattle.osn_register.specs.Code as form;
 ghost use Rattle.osn_register.specs.Inside.{sources_in};
 ghost use Rattle.osn_register.specs.Sources.{HasSources};
-ghost use Rattle.osn_register.specs.Plain.{applied_all, folded, fold_takes_memory};
+ghost use Rattle.osn_register.specs.Plain.{after_edits, register_after, fold_takes_memory};
 ghost use Rattle.osn_register.specs.Plain.{entry_of, with_entry, IsSoundTerritory};
 
 use crate::edit::Edit;
@@ -55,7 +55,7 @@ impl Register {
     /// give no source. On an error some of the edits may have been applied.
     pub fn apply_all(&mut self, edits: &[Edit]) -> Result<(), AllocError>
         ensures ok { OnOk result (self.new ≡ record self.old {
-          territories = applied_all newest_rules self.old.limits self.old.territories edits.now;
+          territories = after_edits newest_rules self.old.limits self.old.territories edits.now;
         }) }
         ensures memory { OnErr result
             (fold_takes_memory newest_rules self.old.limits self.old.territories edits.now ≡ true) }
@@ -73,7 +73,7 @@ impl Register {
     /// If memory runs out. Refused edits need none, nor those that drop, nor those that alter and
     /// give no source.
     pub fn fold(alloc: Global, limits: Limits, edits: &[Edit]) -> Result<Register, AllocError>
-        ensures value { IfOk result (λ r. r ≡ folded newest_rules limits edits.now) }
+        ensures value { IfOk result (λ r. r ≡ register_after newest_rules limits edits.now) }
         ensures memory { OnErr result (fold_takes_memory newest_rules limits [] edits.now ≡ true) }
     {
         let mut register = Register::new(alloc, limits);

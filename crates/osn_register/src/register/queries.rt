@@ -14,12 +14,12 @@ use crate::change_answer::changes;
 use crate::figures::figures;
 use crate::numbers::{day_on_line, label_of_numbers, year_in_range};
 use crate::query::Query;
+use crate::query_fault::QueryFault;
 use crate::refusal::Refusal;
 use crate::register::Register;
-use crate::territory_answer::{converted, easters, exceptions, feasts, on_day, periods, reading};
+use crate::territory_answer::{conversion, easters, exceptions, feasts, on_day, periods, reading};
 use crate::text::Text;
-use crate::unanswered::Unanswered;
-use crate::written_answer::written;
+use crate::written_answer::written_date;
 use osn_days::{Calendar, Weekday};
 use osn_written::{DateReading, Listing};
 use std::alloc::{AllocError, Global};
@@ -55,7 +55,7 @@ impl Register {
         ensures earlier_rules { IfOk result
             (KeepsAnswer first_rules self.now.territories query.now) }
     {
-        self.answer_borrowed(query.borrowed())
+        self.answer_borrowed(query.borrow())
     }
 
     /// Answers a query with borrowed texts as `answer` does.
@@ -75,12 +75,12 @@ impl Register {
     {
         match self.lawful_answer(query) {
             Ok(answer) => Ok(answer),
-            Err(Unanswered::Refused(refusal)) => Ok(Answer::Refused(refusal)),
-            Err(Unanswered::NoMemory) => Err(AllocError),
+            Err(QueryFault::Refused(refusal)) => Ok(Answer::Refused(refusal)),
+            Err(QueryFault::NoMemory) => Err(AllocError),
         }
     }
 
-    fn lawful_answer(&self, query: BorrowedQuery<'_>) -> Result<Answer, Unanswered>
+    fn lawful_answer(&self, query: BorrowedQuery<'_>) -> Result<Answer, QueryFault>
         ensures { IsAnswered
             (refusals.query_refusal newest_rules self.now.territories (as_query query.entry))
             (spec.answer newest_rules self.now.territories (as_query query.entry)) result }
@@ -90,7 +90,7 @@ impl Register {
             BorrowedQuery::DayIn(code, day) => self.day_in(code, day),
             BorrowedQuery::Easter(code, year) => self.easter(code, year),
             BorrowedQuery::YearFigures(year) => Ok(figures(year_in_range(year)?)),
-            BorrowedQuery::Lands => Ok(Answer::Lands(Listing::new(self.listed()?))),
+            BorrowedQuery::Lands => Ok(Answer::Lands(Listing::new(self.list_territories()?))),
             BorrowedQuery::Periods(code) => self.periods(code),
             BorrowedQuery::Exceptions(code) => self.exceptions(code),
             BorrowedQuery::Changes(code) => self.changes(code),
@@ -98,11 +98,13 @@ impl Register {
             BorrowedQuery::Convert(code, calendar, year, month, day) => {
                 self.convert(code, calendar, year, month, day)
             }
-            BorrowedQuery::Written(code, _, date, weekday) => self.written(code, date, weekday),
+            BorrowedQuery::Written(code, _, date, weekday) => self.written_date(
+                code, date, weekday,
+            ),
         }
     }
 
-    fn read(&self, code: &str, year: i64, month: i64, day: i64) -> Result<Answer, Unanswered>
+    fn read(&self, code: &str, year: i64, month: i64, day: i64) -> Result<Answer, QueryFault>
         ensures { IsAnswered
             (refusals.read_refusal newest_rules self.now.territories code.now year month day)
             (spec.read_answer newest_rules self.now.territories code.now year month day) result }
@@ -112,7 +114,7 @@ impl Register {
         Ok(reading(self.alloc, territory, label)?)
     }
 
-    fn day_in(&self, code: &str, day: i64) -> Result<Answer, Unanswered>
+    fn day_in(&self, code: &str, day: i64) -> Result<Answer, QueryFault>
         ensures { IsAnswered
             (refusals.day_refusal newest_rules self.now.territories code.now day)
             (spec.day_in_answer newest_rules self.now.territories code.now day) result }
@@ -122,7 +124,7 @@ impl Register {
         Ok(on_day(self.alloc, territory, sources, day)?)
     }
 
-    fn easter(&self, code: &str, year: i64) -> Result<Answer, Unanswered>
+    fn easter(&self, code: &str, year: i64) -> Result<Answer, QueryFault>
         ensures { IsAnswered
             (refusals.easter_refusal newest_rules self.now.territories code.now year)
             (spec.easter_answer newest_rules self.now.territories code.now year) result }
@@ -132,7 +134,7 @@ impl Register {
         Ok(easters(self.alloc, territory, sources, year)?)
     }
 
-    fn periods(&self, code: &str) -> Result<Answer, Unanswered>
+    fn periods(&self, code: &str) -> Result<Answer, QueryFault>
         ensures { IsAnswered
             (code_refusal self.now.territories code.now)
             (spec.periods_in_answer newest_rules self.now.territories code.now) result }
@@ -141,7 +143,7 @@ impl Register {
         Ok(periods(self.alloc, territory, sources)?)
     }
 
-    fn exceptions(&self, code: &str) -> Result<Answer, Unanswered>
+    fn exceptions(&self, code: &str) -> Result<Answer, QueryFault>
         ensures { IsAnswered
             (code_refusal self.now.territories code.now)
             (spec.exceptions_in_answer newest_rules self.now.territories code.now) result }
@@ -150,7 +152,7 @@ impl Register {
         Ok(exceptions(self.alloc, territory, sources)?)
     }
 
-    fn changes(&self, code: &str) -> Result<Answer, Unanswered>
+    fn changes(&self, code: &str) -> Result<Answer, QueryFault>
         ensures { IsAnswered
             (code_refusal self.now.territories code.now)
             (spec.changes_in_answer newest_rules self.now.territories code.now) result }
@@ -159,7 +161,7 @@ impl Register {
         Ok(changes(self.alloc, territory, sources)?)
     }
 
-    fn feasts(&self, code: &str, year: i64) -> Result<Answer, Unanswered>
+    fn feasts(&self, code: &str, year: i64) -> Result<Answer, QueryFault>
         ensures { IsAnswered
             (refusals.easter_refusal newest_rules self.now.territories code.now year)
             (spec.feasts_in_answer newest_rules self.now.territories code.now year) result }
@@ -176,7 +178,7 @@ impl Register {
         year: i64,
         month: i64,
         day: i64,
-    ) -> Result<Answer, Unanswered>
+    ) -> Result<Answer, QueryFault>
         ensures { IsAnswered
             (refusals.read_refusal newest_rules self.now.territories code.now year month day)
             (spec.convert_in_answer newest_rules self.now.territories code.now calendar
@@ -184,22 +186,22 @@ impl Register {
     {
         let territory = self.known_territory(code)?;
         let label = label_of_numbers(year, month, day)?;
-        Ok(converted(self.alloc, territory, calendar, label)?)
+        Ok(conversion(self.alloc, territory, calendar, label)?)
     }
 
-    fn written(
+    fn written_date(
         &self,
         code: &str,
         date: &DateReading,
         weekday: Option<Weekday>,
-    ) -> Result<Answer, Unanswered>
+    ) -> Result<Answer, QueryFault>
         ensures { IsAnswered
             (code_refusal self.now.territories code.now)
             (spec.written_in_answer newest_rules self.now.territories code.now date.now weekday)
             result }
     {
         let territory = self.known_territory(code)?;
-        Ok(written(self.alloc, territory, date, weekday)?)
+        Ok(written_date(self.alloc, territory, date, weekday)?)
     }
 
     /// Returns the territories with their names, in the order in which they were added.
@@ -207,8 +209,8 @@ impl Register {
     /// # Errors
     ///
     /// `AllocError` if there is no memory for them. An empty register needs none.
-    pub fn listed(&self) -> Result<Vec<Land>, AllocError>
-        ensures value { IfOk result (λ v. v.items ≡ map spec.listed self.now.territories) }
+    pub fn list_territories(&self) -> Result<Vec<Land>, AllocError>
+        ensures value { IfOk result (λ v. v.items ≡ map spec.land_of self.now.territories) }
         ensures memory { OnErr result (0 < length self.now.territories) }
     {
         let mut listed = Vec::with_capacity(self.alloc, self.territories.len())?;

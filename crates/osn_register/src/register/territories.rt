@@ -3,7 +3,7 @@ ghost use Rattle.std.specs.Prelude.{◌≡◌, ℕ, List, Some, is_some, option_
 ghost use Rattle.std.specs.Prelude.{IfSome};
 ghost use Rattle.osn_territory.specs.Territory.{TerritoryModel};
 ghost use Rattle.osn_days.specs.Rules.{newest_rules};
-ghost use Rattle.osn_register.specs.Named.{listing_of, named_of};
+ghost use Rattle.osn_register.specs.NamedTerritories.{listing_of, named_of};
 ghost use Rattle.osn_register.specs.Plain.{IsWellFormed, code_refusal, entry_of};
 ghost use Rattle.osn_register.specs.Refusal.{IsCheckOf};
 

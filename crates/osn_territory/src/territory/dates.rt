@@ -2,10 +2,10 @@
 ghost use Rattle.std.specs.Prelude.{◌≡◌};
 ghost use Rattle.osn_days.specs.Rules.{newest_rules};
 ghost use Rattle.std.specs.List.{list_any};
-ghost use Rattle.osn_territory.specs.Dated as spec;
+ghost use Rattle.osn_territory.specs.Dating as spec;
 ghost use Rattle.osn_territory.specs.MonthDay.{has_month_day};
 
-use crate::dated::{DatedDay, dated_day};
+use crate::dating::{DatedDay, dated_day};
 use crate::month_day::some_has_month_day;
 use crate::territory::Territory;
 use osn_days::{Day, Year};

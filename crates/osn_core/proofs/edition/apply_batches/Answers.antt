@@ -1,6 +1,6 @@
 use Rattle.std.proofs.Common.{ap, ◌∙◌, arith}
 use Rattle.osn_days.specs.Rules.{newest_rules}
-use Rattle.osn_register.specs.Plain.{applied_all}
+use Rattle.osn_register.specs.Plain.{after_edits}
 use Rattle.osn_core.proofs.BatchLemmas.{batch_more}
 use Rattle.osn_core.proofs.edition.apply_batches.Goals as goal
 
@@ -13,6 +13,6 @@ loop-batch-preserved c =
       territories = batch_more _ _ _ _ _ c.args.batches.now l.batch-index c.batch-item.result
           (omega arith) c.batch-item.is l.invariant.limits
           (ap (λ r. r.territories) one
-          ∙ ap (applied_all newest_rules l.register.limits l.register.territories) c.edits.ensures)
+          ∙ ap (after_edits newest_rules l.register.limits l.register.territories) c.edits.ensures)
           l.invariant.territories;
     }

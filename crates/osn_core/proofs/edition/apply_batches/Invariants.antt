@@ -1,6 +1,6 @@
 use Rattle.std.proofs.Common.{◌≡◌, drop}
 use Rattle.osn_days.specs.Rules.{newest_rules}
-use Rattle.osn_register.specs.Plain.{applied_all}
+use Rattle.osn_register.specs.Plain.{after_edits}
 use Rattle.osn_core.specs.Sequential.{joined}
 use Rattle.osn_core.proofs.edition.apply_batches.Given as goal
 
@@ -9,8 +9,8 @@ abbrev pub invariant-loop-batch : goal.invariant-loop-batch
 invariant-loop-batch l = record {
   limits : l.register.limits ≡ l.initial.register.limits;
   territories :
-      applied_all newest_rules l.initial.register.limits l.register.territories
+      after_edits newest_rules l.initial.register.limits l.register.territories
       (joined (drop l.batch-index l.batches))
-      ≡ applied_all newest_rules l.initial.register.limits l.initial.register.territories
+      ≡ after_edits newest_rules l.initial.register.limits l.initial.register.territories
       (joined l.batches);
 }

@@ -1,6 +1,6 @@
 use Rattle.std.proofs.Common.{◌+◌, drop, ap, sym, subst, ◌∙◌, arith}
 use Rattle.osn_days.specs.Rules.{newest_rules}
-use Rattle.osn_register.specs.Plain.{applied_all}
+use Rattle.osn_register.specs.Plain.{after_edits}
 use Rattle.osn_register.specs.Lawful.{AreLawful}
 use Rattle.osn_core.specs.Sequential.{joined}
 use Rattle.osn_file_commands.proofs.EditLemmas.{batch_more, next_batch_lawful}
@@ -27,12 +27,12 @@ loop-batch-preserved c =
     let batch = c.batch-item.result in
     let new =
     ap (λ r. r.territories) one
-    ∙ ap (applied_all newest_rules l.register.limits old) c.edits.ensures in
+    ∙ ap (after_edits newest_rules l.register.limits old) c.edits.ensures in
     record {
       limits = ap (λ r. r.limits) one ∙ l.invariant.limits;
       lawful = subst
           (λ ls. AreLawful newest_rules limits ls (joined (drop (l.batch-index + 1) batches)))
-          (sym (new ∙ ap (λ m. applied_all newest_rules m old batch) l.invariant.limits))
+          (sym (new ∙ ap (λ m. after_edits newest_rules m old batch) l.invariant.limits))
           (next_batch_lawful limits old batches l.batch-index batch (omega arith) c.batch-item.is
           l.invariant.lawful).1;
       territories = batch_more _ _ _ _ _ batches l.batch-index batch (omega arith) c.batch-item.is

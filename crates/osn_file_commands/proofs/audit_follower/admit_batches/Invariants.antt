@@ -1,6 +1,6 @@
 use Rattle.std.proofs.Common.{◌≡◌, drop}
 use Rattle.osn_days.specs.Rules.{newest_rules}
-use Rattle.osn_register.specs.Plain.{applied_all}
+use Rattle.osn_register.specs.Plain.{after_edits}
 use Rattle.osn_register.specs.Lawful.{AreLawful}
 use Rattle.osn_core.specs.Sequential.{joined}
 use Rattle.osn_file_commands.proofs.audit_follower.admit_batches.Given as goal
@@ -13,8 +13,8 @@ invariant-loop-batch l = record {
       AreLawful newest_rules l.initial.register.limits l.register.territories
       (joined (drop l.batch-index l.batches));
   territories :
-      applied_all newest_rules l.initial.register.limits l.register.territories
+      after_edits newest_rules l.initial.register.limits l.register.territories
       (joined (drop l.batch-index l.batches))
-      ≡ applied_all newest_rules l.initial.register.limits l.initial.register.territories
+      ≡ after_edits newest_rules l.initial.register.limits l.initial.register.territories
       (joined l.batches);
 }

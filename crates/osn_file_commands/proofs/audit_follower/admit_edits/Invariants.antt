@@ -1,6 +1,6 @@
 use Rattle.std.proofs.Common.{◌≡◌, drop}
 use Rattle.osn_days.specs.Rules.{newest_rules}
-use Rattle.osn_register.specs.Plain.{applied_all}
+use Rattle.osn_register.specs.Plain.{after_edits}
 use Rattle.osn_register.specs.Lawful.{AreLawful}
 use Rattle.osn_file_commands.proofs.audit_follower.admit_edits.Given as goal
 
@@ -12,7 +12,7 @@ invariant-loop-edit l = record {
       AreLawful newest_rules l.initial.register.limits l.register.territories
       (drop l.edit-index l.edits);
   territories :
-      applied_all newest_rules l.initial.register.limits l.register.territories
+      after_edits newest_rules l.initial.register.limits l.register.territories
       (drop l.edit-index l.edits)
-      ≡ applied_all newest_rules l.initial.register.limits l.initial.register.territories l.edits;
+      ≡ after_edits newest_rules l.initial.register.limits l.initial.register.territories l.edits;
 }

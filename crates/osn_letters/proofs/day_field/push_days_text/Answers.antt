@@ -1,7 +1,7 @@
 use Rattle.std.proofs.Common.{◌≡◌, ◌∙◌, ◌++◌, ◌<◌, List, [], ◌∷◌, length, get_or, take, rules, ap}
 use Rattle.std.proofs.Common.{append-nil, arith, sym}
 use Rattle.std.proofs.lemmas.List.{take_all}
-use Rattle.osn_territory.specs.declared.dated.DatedDay.{DatedDay}
+use Rattle.osn_territory.specs.declared.dating.DatedDay.{DatedDay}
 use Rattle.osn_letters.specs.declared.day_field.DayField.{DayField}
 use Rattle.osn_letters.specs.Fields.{day_text, days_text}
 use Rattle.osn_letters.proofs.day_field.push_days_text.Goals as goal

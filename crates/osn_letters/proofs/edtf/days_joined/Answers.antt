@@ -1,7 +1,7 @@
 use Rattle.std.proofs.Common.{rules, ◌≡◌, ◌∙◌, codes, List, ℕ, map, ap, refl}
 use Rattle.std.proofs.lemmas.Result.{IfOk-weaker}
 use Rattle.itertools.specs.Consumer.{joined}
-use Rattle.osn_territory.specs.declared.dated.DatedDay.{DatedDay}
+use Rattle.osn_territory.specs.declared.dating.DatedDay.{DatedDay}
 use Rattle.osn_letters.specs.Edtf as spec
 use Rattle.osn_letters.specs.declared.edtf.SignedDay.{SignedDay}
 use Rattle.osn_letters.proofs.JoinFacts.{join_by_map, map_now}

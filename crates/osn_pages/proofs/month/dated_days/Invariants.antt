@@ -1,6 +1,6 @@
 use Rattle.std.proofs.Common.{◌≡◌, map, take}
 use Rattle.osn_days.specs.Rules.{newest_rules}
-use Rattle.osn_territory.specs.Dated.{dated_on}
+use Rattle.osn_territory.specs.Dating.{dated_on}
 use Rattle.osn_territory.specs.Runs.{days_in}
 use Rattle.osn_pages.proofs.month.dated_days.Given as goal
 

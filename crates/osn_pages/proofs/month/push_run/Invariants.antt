@@ -1,7 +1,7 @@
 use Rattle.std.proofs.Common.{◌≡◌, ◌++◌, ◌+◌, ◌-◌, ◌≤◌, map}
 use Rattle.std.specs.List.{range_with_len}
 use Rattle.osn_days.specs.Rules.{newest_rules}
-use Rattle.osn_territory.specs.Dated.{dated_on}
+use Rattle.osn_territory.specs.Dating.{dated_on}
 use Rattle.osn_pages.proofs.month.push_run.Given as goal
 
 -- the days so far, of which the run has no fewer

@@ -1,6 +1,6 @@
 use Rattle.std.proofs.Common.{◌≡◌, ◌++◌, ◌∙◌, string_bytes, option_map, ap, sym, arith, subst}
 use Rattle.osn_days.specs.Rules.{newest_rules}
-use Rattle.osn_register.specs.Named.{listing_of}
+use Rattle.osn_register.specs.NamedTerritories.{listing_of}
 use Rattle.osn_register_text.specs.Says.{SaysRegister}
 use Rattle.osn_register_text.specs.WrittenText.{edition_line, register_text, territories_text}
 use Rattle.std.proofs.lemmas.Option.{slice_get_past}

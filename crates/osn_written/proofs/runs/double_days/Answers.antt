@@ -1,7 +1,7 @@
 use Rattle.std.proofs.Common.{◌≡◌, ◌∙◌, ◌++◌, ◌+ℤ◌, ap, filter, ℕ, Bool, List, ℤ}
 use Rattle.std.proofs.Common.{pos, to_z, of_z, w32, rules}
 use Rattle.osn_days.specs.Rules.{newest_rules}
-use Rattle.osn_territory.specs.Dated.{dated_on}
+use Rattle.osn_territory.specs.Dating.{dated_on}
 use Rattle.osn_written.specs.Runs as spec
 use Rattle.osn_written.proofs.OrderFacts.{double_in_order}
 use Rattle.osn_written.proofs.runs.double_days.Goals as goal

@@ -3,7 +3,7 @@ use Rattle.std.proofs.Common.{sym, Vec, Global}
 use Rattle.osn_days.specs.declared.day.Day.{Day}
 use Rattle.std.proofs.lemmas.Int.{ints}
 use Rattle.osn_days.specs.Rules.{newest_rules}
-use Rattle.osn_territory.specs.Dated.{dated_on}
+use Rattle.osn_territory.specs.Dating.{dated_on}
 use Rattle.osn_written.specs.Runs as spec
 use Rattle.osn_written.proofs.RunFacts.{number_taken, number_left}
 use Rattle.osn_written.proofs.runs.push_meant.Goals as goal

@@ -1,7 +1,7 @@
 use Rattle.std.proofs.Common.{◌≡◌, ◌++◌, ◌+◌, ◌-◌, ◌≤◌, filter}
 use Rattle.std.specs.List.{range_with_len}
 use Rattle.osn_days.specs.Rules.{newest_rules}
-use Rattle.osn_territory.specs.Dated.{dated_on}
+use Rattle.osn_territory.specs.Dating.{dated_on}
 use Rattle.osn_written.specs.Runs as spec
 use Rattle.osn_written.proofs.runs.push_meant.Given as goal
 

@@ -3,7 +3,7 @@ use Rattle.std.proofs.Common.{drop, refl, ap, sym, ◌∙◌, arith}
 use Rattle.std.proofs.lemmas.List.{drop_more}
 use Rattle.osn_days.specs.Rules.{newest_rules}
 use Rattle.osn_register.specs.declared.edit.Edit.{Edit}
-use Rattle.osn_register.specs.Plain.{applied, applied_all, apply_takes_memory}
+use Rattle.osn_register.specs.Plain.{after_edit, after_edits, apply_takes_memory}
 use Rattle.osn_register.specs.Plain.{fold_takes_memory}
 use Rattle.osn_register.proofs.EntryFacts.{on_err}
 use Rattle.osn_register.proofs.register.Register.apply_all.Goals as goal
@@ -26,14 +26,14 @@ loop-edit-preserved c =
     let is = c.in_ok-apply_if_lawful.ensures.ok in
     let left = left_from es c.loop-edit.edit-index e (omega arith) c.edit-item.is in
     let territories : c.apply_if_lawful.new.self.territories
-    ≡ applied newest_rules limits before e =
+    ≡ after_edit newest_rules limits before e =
     ap (λ r. r.territories) is
-    ∙ ap (λ m. applied newest_rules m before e) c.loop-edit.invariant.limits in
+    ∙ ap (λ m. after_edit newest_rules m before e) c.loop-edit.invariant.limits in
     record {
       limits = ap (λ r. r.limits) is ∙ c.loop-edit.invariant.limits;
       territories =
-          ap (λ ls. applied_all newest_rules limits ls rest) territories
-          ∙ sym (ap (applied_all newest_rules limits before) left)
+          ap (λ ls. after_edits newest_rules limits ls rest) territories
+          ∙ sym (ap (after_edits newest_rules limits before) left)
           ∙ c.loop-edit.invariant.territories;
       memory = λ more. c.loop-edit.invariant.memory (
           ap (fold_takes_memory newest_rules limits before) left
@@ -56,7 +56,7 @@ returns-in_err-apply_if_lawful-clause-memory c =
     c.in_err-apply_if_lawful.ensures.memory in
     let all = c.loop-edit.invariant.memory (
     ap (fold_takes_memory newest_rules limits before) left
-    ∙ ap (λ b. b || fold_takes_memory newest_rules limits (applied newest_rules limits before e)
+    ∙ ap (λ b. b || fold_takes_memory newest_rules limits (after_edit newest_rules limits before e)
     (drop (c.loop-edit.edit-index + 1) es)) here
     ) in
     on_err c.from_residual.result all

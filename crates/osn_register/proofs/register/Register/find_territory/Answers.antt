@@ -1,7 +1,7 @@
 use Rattle.std.proofs.Common.{ℕ, List, Some, ap, sym, ◌∙◌, is_some, option_map, string_bytes}
 use Rattle.osn_territory.specs.Territory.{TerritoryModel}
 use Rattle.osn_register.specs.Plain.{entry_of}
-use Rattle.osn_register.specs.Named.{named_of}
+use Rattle.osn_register.specs.NamedTerritories.{named_of}
 use Rattle.osn_register.proofs.EntryFacts.{entry_of-map}
 use Rattle.osn_register.proofs.NamedFacts.{named_of-map}
 use Rattle.osn_register.proofs.register.Register.find_territory.Goals as goal

@@ -4,7 +4,7 @@ use osn_written::AnyDate;
 
 /// What a text says.
 #[derive(Clone, Copy, Debug, PartialEq, Eq)]
-pub enum Written {
+pub enum TextReading {
     /// The date is missing: the text says so, as `n.d.` does, or is empty.
     NoDate,
     Date(AnyDate),

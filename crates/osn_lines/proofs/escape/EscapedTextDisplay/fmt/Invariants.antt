@@ -2,7 +2,7 @@ use Rattle.std.proofs.Common.{◌≡◌, ℕ, List, ◌++◌, IsUtf8, chars, fla
 use Rattle.std.specs.Fmt.{HasWritten, IsPlainFormatter}
 use Rattle.std.specs.Str.Iter.{chars_rest}
 use Rattle.osn_lines.specs.Escape.{escaped_char}
-use Rattle.osn_lines.proofs.escape.EscapedDisplay.fmt.Given as goal
+use Rattle.osn_lines.proofs.escape.EscapedTextDisplay.fmt.Given as goal
 
 -- what is written and what is left to write are all of it
 abbrev pub invariant-loop-c : goal.invariant-loop-c

@@ -1,5 +1,5 @@
 use Rattle.std.proofs.Common.{◌≡◌, take}
-use Rattle.osn_register.proofs.sources.copied.Given as goal
+use Rattle.osn_register.proofs.sources.copy_sources.Given as goal
 
 -- those so far
 abbrev pub invariant-loop-entry : goal.invariant-loop-entry

@@ -3,9 +3,9 @@ use Rattle.std.proofs.Common.{append-nil, rules}
 use Rattle.std.proofs.Output.{writes_in_calls_nil, has_written_append, has_written_of_eq}
 use Rattle.std.proofs.lemmas.Str.{IsUtf8-past_char, chars_past_char}
 use Rattle.std.specs.Str.Iter.{chars_rest}
-use Rattle.osn_lines.specs.Escape.{escaped, escaped_char}
+use Rattle.osn_lines.specs.Escape.{escaped_text, escaped_char}
 use Rattle.osn_lines.proofs.EscapedLemmas.{empty_escaped}
-use Rattle.osn_lines.proofs.escape.EscapedDisplay.fmt.Goals as goal
+use Rattle.osn_lines.proofs.escape.EscapedTextDisplay.fmt.Goals as goal
 
 pub loop-c-init : goal.loop-c-init
 loop-c-init g c = (
@@ -38,7 +38,7 @@ loop-c-preserved g c =
     )
 
 pub returns-clause-writes : goal.returns-clause-writes
-unfolding escaped
+unfolding escaped_text
 returns-clause-writes g c plain ok =
     let (done, wrote, whole) = c.loop-c.invariant.1 plain in
     has_written_of_eq _ _ _ _ _ (sym (append-nil done)

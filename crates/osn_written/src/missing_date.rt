@@ -1,7 +1,7 @@
 //! What is near a date that no day of a territory has.
 ghost use Rattle.std.specs.Prelude.{◌≡◌, IfOk};
 ghost use Rattle.osn_days.specs.Rules.{newest_rules};
-ghost use Rattle.osn_written.specs.Missing as spec;
+ghost use Rattle.osn_written.specs.MissingDate as spec;
 
 use crate::absence::Absence;
 use crate::any_date::{Extent, PartialDate, Year};
@@ -15,23 +15,23 @@ use std::alloc::{AllocError, Global};
 
 /// A date that no day of a territory has, and why.
 #[derive(Clone, Copy, Debug, PartialEq, Eq)]
-pub struct Missing {
+pub struct MissingDate {
     pub date: WrittenDate,
     pub absence: Absence,
 }
 
 /// Returns the date whose day is missing, if that is why no day is meant. It is the first day of a
 /// month or a year.
-pub fn missing_day(extent: Extent, reason: NoDay) -> Option<Missing>
+pub fn missing_day(extent: Extent, reason: NoDay) -> Option<MissingDate>
     ensures { result ≡ spec.missing_day extent reason }
 {
     let (first, last) = ends_of(extent);
     match reason {
-        NoDay::Absent(absence) => Some(Missing {
+        NoDay::Absent(absence) => Some(MissingDate {
             date: first_day_of(first),
             absence,
         }),
-        NoDay::LastAbsent(absence) => Some(Missing {
+        NoDay::LastAbsent(absence) => Some(MissingDate {
             date: first_day_of(last),
             absence,
         }),
@@ -48,7 +48,7 @@ pub fn missing_day(extent: Extent, reason: NoDay) -> Option<Missing>
 pub fn days_like(
     alloc: Global,
     territory: &Territory,
-    missing: Missing,
+    missing: MissingDate,
 ) -> Result<Vec<Day>, AllocError>
     ensures { IfOk result (λ days.
         days.items ≡ spec.days_like newest_rules territory.now missing) }
@@ -68,7 +68,7 @@ pub fn days_like(
 pub fn changes_over(
     alloc: Global,
     territory: &Territory,
-    missing: Missing,
+    missing: MissingDate,
 ) -> Result<Vec<Day>, AllocError>
     ensures { IfOk result (λ days.
         days.items ≡ spec.changes_over newest_rules territory.now missing) }
@@ -87,7 +87,7 @@ pub fn changes_over(
 pub fn year_without(
     alloc: Global,
     territory: &Territory,
-    missing: Missing,
+    missing: MissingDate,
 ) -> Result<Vec<Run>, AllocError>
     ensures { IfOk result (λ runs.
         runs.items ≡ spec.year_without newest_rules territory.now missing) }

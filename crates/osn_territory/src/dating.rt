@@ -1,7 +1,7 @@
 //! A day as a regime dates it: its label, and the year of its date counted from 1 January.
 ghost use Rattle.std.specs.Prelude.{◌≡◌, false, Some};
 ghost use Rattle.osn_days.specs.Rules.{newest_rules};
-ghost use Rattle.osn_territory.specs.Dated as spec;
+ghost use Rattle.osn_territory.specs.Dating as spec;
 ghost use Rattle.osn_days.specs.Chain.{date_of};
 ghost use Rattle.osn_territory.specs.Dual as dual;
 ghost use Rattle.osn_territory.specs.Style.{is_from_easter};
@@ -53,7 +53,7 @@ pub struct DatedYears(pub DatedDay);
 impl fmt::Display for DatedYears {
     ghost output = { λ x. Some (spec.years_text x.0) };
 
-    #[tactic(auto, unfolding(crate::specs::Dated::years_text))]
+    #[tactic(auto, unfolding(crate::specs::Dating::years_text))]
     fn fmt<W: fmt::Write>(&self, f: &mut fmt::Formatter<W>) -> fmt::Result {
         let year = self.0.label.year.unsigned_abs();
         let january = self.0.january_year.unsigned_abs();
@@ -68,7 +68,7 @@ impl fmt::Display for DatedYears {
 impl fmt::Display for DatedDay {
     ghost output = { λ x. Some (spec.dated_text x) };
 
-    #[tactic(auto, unfolding(crate::specs::Dated::dated_text))]
+    #[tactic(auto, unfolding(crate::specs::Dating::dated_text))]
     fn fmt<W: fmt::Write>(&self, f: &mut fmt::Formatter<W>) -> fmt::Result {
         let label = self.label;
         write!(

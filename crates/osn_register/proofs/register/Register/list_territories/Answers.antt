@@ -7,7 +7,7 @@ use Rattle.osn_register.specs.Answer as spec
 use Rattle.osn_register.specs.Inside.{entry_in, sources_in}
 use Rattle.osn_register.specs.Plain.{EntryModel}
 use Rattle.osn_register.proofs.EntryFacts.{on_err}
-use Rattle.osn_register.proofs.register.Register.listed.Goals as goal
+use Rattle.osn_register.proofs.register.Register.list_territories.Goals as goal
 
 -- the territories that are listed, with one more after them, and those that are left are all
 listed_more : (so_far : List Land) (listing : Land) (rest all : List Land) (code name : List ℕ) →
@@ -22,27 +22,29 @@ listed_more so_far listing rest all code name e coded named =
 -- if one is left to list, there are some
 some_left : {E : Type 0} (L : E → EntryModel) (so_far : List Land) (left rest all : List E) (e : E)
     (territories : List EntryModel) → left ≡ e ∷ rest →
-    so_far ++ map spec.listed (map L left) ≡ map spec.listed (map L all) → map L all ≡ territories →
+    so_far ++ map spec.land_of (map L left) ≡ map spec.land_of (map L all)
+    → map L all ≡ territories →
     0 < length territories
 some_left L so_far left rest all e territories is listed kept =
-    let counted = ap length (ap (λ es. so_far ++ map spec.listed (map L es)) (sym is) ∙ listed
-    ∙ ap (map spec.listed) kept) in
+    let counted = ap length (ap (λ es. so_far ++ map spec.land_of (map L es)) (sym is) ∙ listed
+    ∙ ap (map spec.land_of) kept) in
     omega (
       arith,
       counted,
-      length-append so_far (map spec.listed (map L (e ∷ rest))),
-      length-map territories spec.listed,
+      length-append so_far (map spec.land_of (map L (e ∷ rest))),
+      length-map territories spec.land_of,
     )
 
 pub loop-code-preserved : goal.loop-code-preserved
 loop-code-preserved c =
     let L = entry_in {V = NamedTerritory} string_bytes (λ v. v.name) (λ v. v.territory)
     (λ v. sources_in v.sources) in
-    ap (λ ls. ls ++ map spec.listed (map L c.next.new.self)) c.in_ok-push.ensures.items
+    ap (λ ls. ls ++ map spec.land_of (map L c.next.new.self)) c.in_ok-push.ensures.items
     ∙ listed_more c.loop-code.listed.items c.in_ok-listing.field-0
-    (map spec.listed (map L c.next.new.self)) _ (string_bytes c.in-Some.code.now)
+    (map spec.land_of (map L c.next.new.self)) _ (string_bytes c.in-Some.code.now)
     c.in-Some.entry.now.name
-    (ap (λ it. c.loop-code.listed.items ++ map spec.listed (map L it)) (sym c.in-Some.ensures.steps)
+    (ap (λ it. c.loop-code.listed.items
+    ++ map spec.land_of (map L it)) (sym c.in-Some.ensures.steps)
     ∙ c.loop-code.invariant)
     (c.in_ok-listing.ensures.0 ∙ c.as_str.ensures.value) c.in_ok-listing.ensures.1
 
@@ -51,10 +53,10 @@ returns-clause-value c =
     let L = entry_in {V = NamedTerritory} string_bytes (λ v. v.name) (λ v. v.territory)
     (λ v. sources_in v.sources) in
     sym (append-nil c.loop-code.listed.items)
-    ∙ ap (λ it. c.loop-code.listed.items ++ map spec.listed (map L it))
+    ∙ ap (λ it. c.loop-code.listed.items ++ map spec.land_of (map L it))
     (sym c.in-None.ensures.steps.0)
     ∙ c.loop-code.invariant
-    ∙ ap (λ r. map spec.listed r.territories) c.self.view_is
+    ∙ ap (λ r. map spec.land_of r.territories) c.self.view_is
 
 pub returns-in_err-listing-clause-memory : goal.returns-in_err-listing-clause-memory
 returns-in_err-listing-clause-memory c = on_err c.from_residual-in_err-listing.result

@@ -1,12 +1,12 @@
 use Rattle.std.proofs.Common.{◌≡◌, ap, ◌∙◌, arith, rules, to_z, of_z, w32}
 use Rattle.std.proofs.lemmas.Int.{ints}
 use Rattle.osn_days.specs.Rules.{newest_rules}
-use Rattle.osn_territory.specs.declared.dated.DatedDay.{DatedDay}
+use Rattle.osn_territory.specs.declared.dating.DatedDay.{DatedDay}
 use Rattle.osn_territory.specs.Dual.{date_text}
 use Rattle.osn_territory.specs.LabelOrder.{label_date}
 use Rattle.osn_territory.proofs.DatedFacts.{text_of_date}
 use Rattle.osn_territory.proofs.OrderOfLabels.{date_of_label}
-use Rattle.osn_territory.proofs.dated.dated_day.Goals as goal
+use Rattle.osn_territory.proofs.dating.dated_day.Goals as goal
 
 pub returns-clause-text : goal.returns-clause-text
 returns-clause-text c =

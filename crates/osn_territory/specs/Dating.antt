@@ -5,7 +5,7 @@ use Rattle.osn_days.specs.Chain.{date_of}
 use Rattle.osn_days.specs.Month.{month_name}
 use Rattle.osn_days.specs.Rules.{Rules}
 use Rattle.osn_territory.specs.declared.regime.Regime.{Regime}
-use Rattle.osn_territory.specs.declared.dated.DatedDay.{DatedDay}
+use Rattle.osn_territory.specs.declared.dating.DatedDay.{DatedDay}
 use Rattle.osn_territory.specs.Label.{local_label}
 use Rattle.osn_territory.specs.Dual.{year_text}
 use Rattle.osn_territory.specs.Territory.{TerritoryModel, regime_at}
