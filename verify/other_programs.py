@@ -1,8 +1,8 @@
 #!/usr/bin/env python3
 """Checks that the Rattle programs compile whose names end in .rattle: the gate doesn't see them.
 
-They are those of bench/ and of verify/growths/. What is committed is cloned, each is added to it,
-and `rt try` runs it there without a proof, without arguments and input.
+They are those of bench/. What is committed is cloned, each is added to it, and `rt try` runs it
+there without a proof, without arguments and input.
 """
 import glob
 import os
@@ -16,8 +16,7 @@ from clone import add_program, cloned
 def main():
     CommandLine(__doc__).parse_args()
     need("rt", "the Rattle kit that KIT names")
-    sources = sorted(glob.glob(os.path.join(TOP, "bench", "*.rattle"))
-                     + glob.glob(os.path.join(TOP, "verify", "growths", "*.rattle")))
+    sources = sorted(glob.glob(os.path.join(TOP, "bench", "*.rattle")))
     with cloned() as clone:
         for source in sources:
             tried = subprocess.run(["rt", "try"], cwd=add_program(clone, source), text=True,

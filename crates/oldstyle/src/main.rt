@@ -4,7 +4,7 @@
 mod title;
 
 use crate::title::Titled;
-use osn_commands::{report_no_words, run};
+use osn_commands::{first_plain_word, report_no_words, run, takes_text, text_alone};
 use osn_folder::Disk;
 use osn_lines::Plain;
 use osn_report::{StandardOutput, end_output};
@@ -44,11 +44,6 @@ fn is_there(rt: &impl Files, path: &str) -> bool {
     fs::exists(rt, path).unwrap_or(false)
 }
 
-/// Returns the first word after the command that does not begin with a hyphen.
-fn first_word(args: &[String]) -> Option<&String> {
-    args.iter().skip(2).find(|word| !word.starts_with('-'))
-}
-
 /// Returns the word of the command, or an empty text without one.
 fn command_in(args: &[String]) -> &str {
     match args.get(1) {
@@ -57,19 +52,10 @@ fn command_in(args: &[String]) -> &str {
     }
 }
 
-/// Returns whether the command takes a text of territories for a journal, which may be a new one.
-fn takes_text(args: &[String]) -> bool {
-    matches!(command_in(args), "plan" | "publish")
-}
-
-/// Returns whether the command line plans or publishes a text that is there and names no journal:
-/// one word follows the command.
+/// Returns whether the command line plans or publishes a text that is there, for a journal that it
+/// leaves out.
 fn takes_text_alone(rt: &impl Files, args: &[String]) -> bool {
-    let words = args.iter().skip(2).filter(|word| !word.starts_with('-'));
-    takes_text(args)
-        && words.count() == 1
-        && !args.iter().any(|word| word.starts_with("--journal"))
-        && first_word(args).is_some_and(|text| is_there(rt, text.as_str()))
+    text_alone(args).is_some_and(|text| is_there(rt, text))
 }
 
 /// Returns the path of the user's own journal. If a text is given for it, its folder is made if
@@ -86,14 +72,14 @@ fn own_journal(rt: &(impl Env + Files + AllocGlobal), args: &[String]) -> Option
 }
 
 /// Returns the path of the journal of a command line that names none: what `OLDSTYLE_JOURNAL` says,
-/// or else the user's own journal, if there is one. If the first word after the command names a
-/// file, it is the journal, and there is no default. But after `plan` and `publish` it may be the
+/// or else the user's own journal, if there is one. If the first argument after the command names
+/// a file, it is the journal, and there is no default. But after `plan` and `publish` it may be the
 /// text, and the user's own journal need not be there.
 fn default_journal(rt: &(impl Env + Files + AllocGlobal), args: &[String]) -> Option<String> {
-    let takes_text = takes_text(args);
+    let takes_text = takes_text(command_in(args));
     if !takes_text
-        && let Some(first) = first_word(args)
-        && is_there(rt, first.as_str())
+        && let Some(first) = first_plain_word(args)
+        && is_there(rt, first)
     {
         return None;
     }

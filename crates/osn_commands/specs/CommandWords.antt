@@ -1,6 +1,6 @@
 -- The words of a command line, as they were typed: the program's name, the command, and the rest.
 use Rattle.std.specs.Prelude.{◌&&◌, ◌||◌, ◌+◌, ℕ, Bool, true, false, List, [], ◌∷◌, not, drop}
-use Rattle.std.specs.Prelude.{get_or, codes, if◌then◌else◌, is_some}
+use Rattle.std.specs.Prelude.{get_or, codes, if◌then◌else◌, is_some, Option, Some, None}
 use Rattle.std.specs.Str.Parse.{starts_with_minus}
 use Rattle.std.specs.List.{remove}
 use Rattle.std.specs.Str.{bytes_eq}
@@ -41,11 +41,11 @@ abbrev pub is_flag : Text → Bool
 is_flag word =
     bytes_eq word (codes "--strict") || (bytes_eq word (codes "--json")
     || (bytes_eq word (codes "--summary") || (bytes_eq word (codes "--replace")
-    || (bytes_eq word (codes "--onto-newest")
+    || (bytes_eq word (codes "--keep-going") || (bytes_eq word (codes "--onto-newest")
     || (bytes_eq word (codes "--upgrade") || (bytes_eq word (codes "--read-only")
     || (bytes_eq word (codes "--stop-at-refusal") || (bytes_eq word (codes "--explain")
     || (bytes_eq word (codes "--strict-members") || (bytes_eq word (codes "--help")
-    || bytes_eq word (codes "-h")))))))))))
+    || bytes_eq word (codes "-h"))))))))))))
 
 -- a word that begins with a hyphen and has more
 abbrev pub is_option : Text → Bool
@@ -78,3 +78,14 @@ plain_from text next (word ∷ words) =
 -- how many such words follow the command
 abbrev pub plain_count : List Text → ℕ
 plain_count words = plain_from (λ word. word) next.Any (drop 2 words)
+
+-- the first of the words that is neither an option nor the value of one, by their texts
+abbrev pub first_plain_from : {X : Type 0} → (X → Text) → Next → List X → Option Text
+first_plain_from text next [] = None
+first_plain_from text next (word ∷ words) =
+    if is_plain next (text word) then Some (text word)
+    else first_plain_from text (next_after next (text word)) words
+
+-- the first such word after the command
+abbrev pub first_plain : List Text → Option Text
+first_plain words = first_plain_from (λ word. word) next.Any (drop 2 words)

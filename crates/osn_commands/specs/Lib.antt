@@ -22,3 +22,4 @@ pub mod Run
 pub mod Help
 pub mod CommandWords
 pub mod Journal
+pub mod NewJournal

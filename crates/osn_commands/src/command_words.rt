@@ -1,5 +1,6 @@
 //! The words of a command line, as they were typed.
-ghost use Rattle.std.specs.Prelude.{◌≡◌, [], drop, get_or, map};
+ghost use Rattle.std.specs.Prelude.{◌≡◌, [], drop, get_or, map, option_map};
+ghost use Rattle.std.specs.List.{list_any};
 ghost use Rattle.osn_commands.specs.CommandWords as spec;
 
 use osn_written::parts_at;
@@ -41,6 +42,20 @@ fn is_help(word: &str) -> bool
     ensures { result ≡ spec.is_help word.now }
 {
     matches!(word, "--help" | "-h")
+}
+
+/// Returns whether one of these words is that option.
+fn some_help<S: AsStr>(words: &[S]) -> bool
+    ensures { result ≡ list_any (λ word. spec.is_help (S.text word)) words.now }
+{
+    words.iter().any(|word| is_help(word.as_str()))
+}
+
+/// Returns whether the text of one of these words is that option.
+pub(crate) fn asks_help<S: AsStr>(words: &[S]) -> bool
+    ensures { result ≡ list_any spec.is_help (map S.text words.now) }
+{
+    some_help(words)
 }
 
 /// Returns whether help is asked for of the command that prints it.
@@ -95,6 +110,7 @@ fn is_flag(word: &str) -> bool
             | "--json"
             | "--summary"
             | "--replace"
+            | "--keep-going"
             | "--onto-newest"
             | "--upgrade"
             | "--read-only"
@@ -175,4 +191,39 @@ pub(crate) fn plain_count<S: AsStr>(words: &[S]) -> usize
     ensures { result ≡ spec.plain_count (map S.text words.now) }
 {
     plain_after(words)
+}
+
+/// Returns the first of these words that is neither an option nor the value of one.
+fn first_plain_from<S: AsStr>(words: &[S]) -> Option<&str>
+    ensures { option_map (λ word. word.now) result
+        ≡ spec.first_plain_from S.text Next.Any words.now }
+{
+    let mut next = Next::Any;
+    for word in words {
+        let word = word.as_str();
+        if is_plain(next, word) {
+            return Some(word);
+        }
+        next = next_after(next, word);
+    }
+    None
+}
+
+/// Returns the first such word after the command.
+fn first_plain_after<S: AsStr>(words: &[S]) -> Option<&str>
+    ensures { option_map (λ word. word.now) result
+        ≡ spec.first_plain_from S.text Next.Any (drop 2 words.now) }
+{
+    if words.len() < 2 {
+        return None;
+    }
+    first_plain_from(&words[2..])
+}
+
+/// Returns the first word after the command of a command line that is neither an option nor the
+/// value of one.
+pub fn first_plain_word<S: AsStr>(words: &[S]) -> Option<&str>
+    ensures { option_map (λ word. word.now) result ≡ spec.first_plain (map S.text words.now) }
+{
+    first_plain_after(words)
 }

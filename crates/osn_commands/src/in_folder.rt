@@ -152,6 +152,30 @@ fn strict_status(strict: bool, has_edits: bool, status: Status) -> Status
     status
 }
 
+/// Reports, after a plan that was printed, why the journal could not be kept. Returns the status
+/// after all of it.
+fn report_end<D: Folder, E: Sink>(
+    alloc: Global,
+    folder: &mut D,
+    journal: &str,
+    is_there: bool,
+    strict: bool,
+    end: PlanEnd,
+    errors: &mut E,
+) -> Status
+    ensures { spec.ReportsHindranceAfter end.status (strict && end.has_edits) journal.now is_there
+        (D.known folder.old) (D.known folder.new)
+        (output_of E.contents E.has_failed E.holds_back errors.old errors.new) result }
+{
+    match end.status {
+        Status::Done => {
+            let status = report_hindrance(alloc, folder, journal, is_there, errors);
+            strict_status(strict, end.has_edits, status)
+        }
+        failed => failed,
+    }
+}
+
 /// Opens the journal of a path, if one is there, and then a text, and does what `plan_command`
 /// does. If the text could not be opened, standard error reports why, with its path. After a plan
 /// it reports why the journal could not be kept, as far as that is found out without making one. If
@@ -185,11 +209,5 @@ pub fn plan_in_folder<D: Folder, W: Sink, E: Sink>(
     let end = plan_by(
         alloc, limits, folder, journal, &mut file, text, output, errors,
     );
-    match end.status {
-        Status::Done => {
-            let status = report_hindrance(alloc, folder, journal, is_there, errors);
-            Ok(strict_status(strict, end.has_edits, status))
-        }
-        failed => Ok(failed),
-    }
+    Ok(report_end(alloc, folder, journal, is_there, strict, end, errors))
 }

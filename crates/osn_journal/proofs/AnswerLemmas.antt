@@ -1,6 +1,6 @@
 -- How the lines of a text are answered from an object that no line changes.
 use Rattle.std.proofs.Common.{◌≡◌, ◌∙◌, ◌+◌, ◌≤◌, ℕ, Bool, true, false, List, [], ◌∷◌, ◌++◌}
-use Rattle.std.proofs.Common.{take}
+use Rattle.std.proofs.Common.{take, None}
 use Rattle.std.proofs.Common.{length, map, Option, Some, Result, Ok, Err, IfSome, refl, sym, ap}
 use Rattle.std.proofs.Common.{subst}
 use Rattle.std.proofs.Common.{arith, inl, inr, ⊎_elim}

@@ -58,9 +58,14 @@ pub struct Feed<'a, R, F> {
     file: F,
 }
 
-impl<'a, R, F> Feed<'a, R, F> {
-    /// Returns the arrivals of this source and this file.
-    pub fn new(requests: &'a mut R, file: F) -> Feed<'a, R, F> {
+impl<'a, R: Source, F: FollowedFile> Feed<'a, R, F> {
+    /// Returns the arrivals of this source and this file. Reads give what the source gives from
+    /// here on, and the looks go on from the lines that were read of the file so far.
+    pub fn new(requests: &'a mut R, file: F) -> Feed<'a, R, F>
+        ensures remaining { ⟦<Feed<'a, R, F> as Arrivals>⟧.remaining result
+            ≡ R.remaining requests.old }
+        ensures contents { ⟦<Feed<'a, R, F> as Arrivals>⟧.contents result ≡ F.contents file }
+    {
         Feed { requests, file }
     }
 }

@@ -1,5 +1,5 @@
 -- Why a line has no text, by why there is no page.
-use Rattle.std.proofs.Common.{◌≡◌, Option, Some, None, Result, Ok, Err, IfErr, OnOk}
+use Rattle.std.proofs.Common.{◌≡◌, Option, None, Result, Ok, Err, IfErr, OnOk}
 use Rattle.std.proofs.Common.{inl, inr}
 use Rattle.osn_register.specs.Refusal.{IsRefusalOrNoMemory}
 use Rattle.osn_register.specs.declared.refusal.Refusal.{Refusal}

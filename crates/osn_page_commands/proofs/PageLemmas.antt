@@ -1,6 +1,6 @@
 -- A command that prints a page, or reports why there is none, did what its contract says.
 use Rattle.std.proofs.Common.{◌≡◌, Bool, List, ℕ, Option, Some, None, Ok, ◌∙◌, ap, refl, subst₂}
-use Rattle.std.proofs.Common.{inl, inr}
+use Rattle.std.proofs.Common.{inl, inr, subst}
 use Rattle.osn_core.specs.Edition.{EditionModel}
 use Rattle.osn_invocation.specs.Invocation.{PageRequestModel}
 use Rattle.osn_lines.specs.Streams.{Input, Output}
@@ -12,8 +12,10 @@ use Rattle.osn_page_commands.specs.PageRequest.{territory_word, date_text_of, to
 use Rattle.osn_page_commands.specs.Page.{PrintsTopic, RunsNumbered, PrintsPageOf, PrintsPageOn}
 use Rattle.osn_page_commands.specs.Page.{topic_refusal, topic_text, refusal_line}
 use Rattle.osn_page_commands.specs.Page.{page_status, lacks_strict_day, PrintsTopicText}
+use Rattle.osn_page_commands.specs.Page.{PrintsAsked, PrintsDates, place_of}
 use Rattle.osn_page_commands.specs.declared.place.Place.{Place}
 use Rattle.osn_page_commands.specs.declared.place.Place.TheVariants.{One, NotOne}
+use Rattle.osn_page_commands.specs.declared.page_request.LineRules.{LineRules}
 use Rattle.osn_page_commands.specs.declared.page_request.Topic.{Topic}
 use Rattle.osn_page_commands.specs.declared.page_request.Topic.TheVariants.{Almanac, Year}
 use Rattle.osn_page_commands.specs.declared.page_request.Topic.TheVariants.{Territory, Set, Dates}
@@ -75,6 +77,14 @@ module _ (s : EditionModel) (path code date : List ℕ) (topic : Topic) (o e : O
     page_refused refusal other same (inl some) message = rw some (same, message)
     page_refused refusal other same (inr none) message = absurd (other none.0)
 
+-- the page was printed on the only territory that a word names
+pub page_of_one : (s : EditionModel) (path word date : List ℕ) (topic : Topic) (place : Place)
+    (code shown : List ℕ) (o e : Output) (status : Status) → place ≡ One code → shown ≡ code
+    → PrintsPageOf s path shown date topic o e status
+    → PrintsPageOn s path word date topic place o e status
+page_of_one s path word date topic place code shown o e status one same h =
+    rw one (subst (λ c. PrintsPageOf s path c date topic o e status) same h)
+
 -- there was no memory to find what a word names
 pub place_unknown : (s : EditionModel) (path word date : List ℕ) (topic : Topic) (place : Place)
     (o e : Output) (status : Status) → o.new ≡ o.old → EndsBy e NoMemory status
@@ -82,6 +92,30 @@ pub place_unknown : (s : EditionModel) (path word date : List ℕ) (topic : Topi
 place_unknown s path word date topic (One code) o e status = page_unmade s path code date topic o e
     status
 place_unknown s path word date topic (NotOne named) o e status = λ same message. (same, inr message)
+
+module _ (s : EditionModel) (path word date : List ℕ) (i : Input) (o e : Output) (status : Status)
+  where
+    -- dates of the input were asked for
+    pub asked_dates : (topic : Topic) (rules : LineRules) → topic ≡ Dates rules
+        → PrintsDates s path word topic i o e status
+        → PrintsAsked s path word date topic i o e status
+    asked_dates (Dates given) rules is h = h
+    asked_dates (Almanac year) rules is h = absurd (cc)
+    asked_dates (Year year is_json) rules is h = absurd (cc)
+    asked_dates (Territory page form) rules is h = absurd (cc)
+    asked_dates (Set given form) rules is h = absurd (cc)
+    asked_dates (Territories is_json) rules is h = absurd (cc)
+
+    -- the date of the words was asked for, or none
+    pub asked_page : (topic : Topic) → ((rules : LineRules) → topic ≡ Dates rules → ⊥)
+        → PrintsPageOn s path word date topic (place_of topic word s.territories) o e status
+        → PrintsAsked s path word date topic i o e status
+    asked_page (Dates rules) other h = absurd (other rules refl)
+    asked_page (Almanac year) other h = h
+    asked_page (Year year is_json) other h = h
+    asked_page (Territory page form) other h = h
+    asked_page (Set given form) other h = h
+    asked_page (Territories is_json) other h = h
 
 -- the page was printed that these words ask for
 pub page_printed : (limits : Limits) (path : List ℕ) (number : Option ℕ) (words : PageRequestModel)

@@ -1,5 +1,5 @@
 -- A word of a name is near, by what is before and after the first space of the name.
-use Rattle.std.proofs.Common.{◌≡◌, ◌∙◌, ◌||◌, ℕ, Bool, true, false, List, Option, Some, None, refl}
+use Rattle.std.proofs.Common.{◌≡◌, ◌∙◌, ◌||◌, ℕ, Bool, true, false, List, Some, None, refl}
 use Rattle.std.proofs.Common.{ap, sym}
 use Rattle.osn_lines.specs.Near.{is_near}
 use Rattle.osn_written.specs.WrittenDate.{parts_at}

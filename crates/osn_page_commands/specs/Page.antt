@@ -1,6 +1,6 @@
 -- The page that a command prints, or why it prints none.
 use Rattle.std.specs.Prelude.{◌≡◌, ◌⊎◌, ◌++◌, ℕ, pos, List, [], ◌∷◌, map, codes, Option}
-use Rattle.std.specs.Prelude.{None, Some, IfSome, IsUtf8}
+use Rattle.std.specs.Prelude.{None, IfSome, IsUtf8}
 use Rattle.std.specs.Prelude.{Bool, true, false, ◌&&◌, if◌then◌else◌, MatchResult}
 use Rattle.std.specs.Option.{MatchOption}
 use Rattle.std.specs.Fmt.{decimal}

@@ -102,13 +102,7 @@ fn print_asked<R: Source, W: Sink, E: Sink>(
 {
     match topic {
         Topic::Dates(_) => print_dates(alloc, edition, path, word, topic, input, output, errors),
-        Topic::Almanac(_)
-        | Topic::Year { .. }
-        | Topic::Territory { .. }
-        | Topic::Set { .. }
-        | Topic::Territories { .. } => {
-            print_page(alloc, edition, path, word, date, topic, output, errors)
-        }
+        _ => print_page(alloc, edition, path, word, date, topic, output, errors),
     }
 }
 

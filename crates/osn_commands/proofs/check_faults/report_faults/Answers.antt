@@ -1,4 +1,4 @@
-use Rattle.std.proofs.Common.{◌≡◌, ◌∙◌, ap}
+use Rattle.std.proofs.Common.{◌≡◌, ◌∙◌, List, ℕ, ap}
 use Rattle.std.proofs.lemmas.Result.{IfOk-weaker}
 use Rattle.toml.specs.Parse.{parse_document}
 use Rattle.osn_register_text.specs.FurtherFaults.{further_faults}
@@ -10,7 +10,7 @@ returns-in-Ok g c =
     let path = c.args.path.now in
     let text = c.args.text.now in
     let first = c.args.first.now in
-    let others = λ code. further_faults c.args.limits code (parse_document text) in
+    let others = λ (code : List ℕ). further_faults c.args.limits code (parse_document text) in
     let found : c.deref.result.now ≡ others first.code =
     c.deref.ensures.value ∙ (c.in-Ok.ensures ∙ ap others c.as_str.ensures.value) in
     c.report_line.ensures (list_of path text first (others first.code))

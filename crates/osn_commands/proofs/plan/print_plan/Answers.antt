@@ -16,7 +16,7 @@ returns-in-Ok g c =
       same_plan object _ _ c.args.target.now.territories _ _ c.register.ensures.limits
           c.register.ensures.territories refl c.in-Ok.ensures.ok,
       c.print_edits-status.ensures,
-      ap not (c.is_empty.ensures ∙ ap (λ (n : ℕ). n == 0) size),
+      ap not (c.is_empty-has_edits.ensures ∙ ap (λ (n : ℕ). n == 0) size),
     ))
 
 pub returns-in-Err : goal.returns-in-Err

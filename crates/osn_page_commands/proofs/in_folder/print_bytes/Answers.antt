@@ -1,4 +1,4 @@
-use Rattle.std.proofs.Common.{inl, subst}
+use Rattle.std.proofs.Common.{inl, inr, refl, subst}
 use Rattle.osn_core.specs.Edition.{edition_model}
 use Rattle.osn_lines.specs.Streams.{output_of}
 use Rattle.osn_page_commands.specs.Page.{PrintsPageOn, place_of}
@@ -17,3 +17,6 @@ returns-in-Ok g c =
           (place_of c.args.topic.now c.args.word.now s.territories) wrote errors c.print_page.result)
           c.in-Ok.ensures.cases.0 c.print_page.ensures,
     )
+
+pub returns-in-Err : goal.returns-in-Err
+returns-in-Err g c = inr (c.in-Err.ensures.cases.0, refl, (refl, c.write_line.ensures))

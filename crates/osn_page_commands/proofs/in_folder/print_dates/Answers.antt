@@ -24,6 +24,5 @@ returns-in-Err g c =
     inl (
       c.in-Err.why,
       c.in-Err.ensures.reason,
-      refl,
-      subst (λ fault. Reports errors fault c.report.result) c.from.ensures c.report.ensures,
+      (refl, subst (λ fault. Reports errors fault c.report.result) c.from.ensures c.report.ensures),
     )
